@@ -1,0 +1,4 @@
+pub mod Collars
+pub mod Used
+pub mod Derived
+pub mod Tallies

@@ -1,0 +1,4 @@
+pub mod Parts
+pub mod Replaces
+pub mod Tops
+pub mod Sheets

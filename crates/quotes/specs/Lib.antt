@@ -1,0 +1,4 @@
+pub mod Shown
+pub mod Takes
+pub mod Tops
+pub mod Sheets

@@ -1,0 +1,4 @@
+mod AllLegs
+mod Factors
+pub mod SoundLegs
+pub mod Smallest

@@ -1,0 +1,4 @@
+pub mod Sides
+pub mod Refusals
+pub mod Strategies
+pub mod Made
