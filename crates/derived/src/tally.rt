@@ -175,7 +175,7 @@ fn top_over(backing: Backing, smallest: u32) -> i64
     requires { ⌜ SmallBacking backing 6 ⌝ }
     ensures { λ r. ⌜ r ≡ topOver backing smallest ⌝ }
 {
-    let net = backing.bought as i64 - backing.sold as i64;
+    let net = net_of(backing);
     if backing.customers {
         net - smallest as i64
     } else {
@@ -187,7 +187,7 @@ fn bottom_under(backing: Backing, smallest: u32) -> i64
     requires { ⌜ SmallBacking backing 6 ⌝ }
     ensures { λ r. ⌜ r ≡ bottomUnder backing smallest ⌝ }
 {
-    let net = backing.bought as i64 - backing.sold as i64;
+    let net = net_of(backing);
     if backing.customers {
         net + smallest as i64
     } else {
