@@ -1,8 +1,8 @@
 -- How large used prices are on a sound leg, and how many contracts stand behind them.
-use mathlib.Core.Path.{_≡_, refl, sym, ap, _∙_}
+use mathlib.Core.Path.{_≡_, refl, sym}
 use mathlib.Core.List.{List, [], _∷_}
-use mathlib.Core.Bool.{Bool, true, false, cond}
-use Prim.Native.Nat.{ℕ, _+_, _≤_, _<_}
+use mathlib.Core.Bool.{true}
+use Prim.Native.Nat.{ℕ, _≤_}
 use native.Mathlib.Omega.{arith}
 use lib.Dec.{leb}
 use lib.ListN.{length}
@@ -14,7 +14,7 @@ use Rattle.terms.specs.declared.side.Side.the-variants.{Buy, Sell}
 use Rattle.terms.specs.Sides.{opposite}
 use Rattle.quotes.specs.declared.level.Level.{Level}
 use Rattle.quotes.specs.declared.top.LegTop.{LegTop}
-use Rattle.quotes.specs.Shown.{SideQuotes, LegQuotes, contracts, soundLeg, soundSide, soundLevels, soundLevel, soundAway, uncrossed}
+use Rattle.quotes.specs.Shown.{SideQuotes, LegQuotes, soundLeg, soundSide, soundLevels, soundAway, uncrossed}
 use Rattle.quotes.specs.Takes.{best}
 use Rattle.quotes.specs.Tops.{ownOf, awayOf, listOf, topOf, quotesOf}
 use Rattle.quotes.proofs.Parts.{side-parts, side-whole, leg-parts, leg-whole, leg-side, price-bounds, level-bounds, first-sound}

@@ -5,14 +5,13 @@ use mathlib.Core.Bool.{Bool, true, false, not, _&&_}
 use Prim.Native.Nat.{ℕ, zero, suc, _+_, _*_, _<_, min}
 use native.Mathlib.Omega.{arith}
 use lib.ListN.{length, getD, take}
-use Rattle.std.specs.Options.{isSome, valueOr}
-use Rattle.std.specs.shelf.Lists.{folded, sumBy}
+use Rattle.std.specs.Options.{valueOr}
+use Rattle.std.specs.shelf.Lists.{folded}
 use Rattle.std.proofs.shelf.Sums.{folded-more, sumBy-more}
 use Rattle.std.specs.declared.option.Option.{Option}
 use Rattle.std.specs.declared.option.Option.the-variants.{Some, None}
 use Rattle.terms.specs.declared.side.Side.{Side}
 use Rattle.terms.specs.declared.side.Side.the-variants.{Buy, Sell}
-use Rattle.quotes.specs.declared.level.Level.{Level}
 use Rattle.quotes.specs.declared.top.LegTop.{LegTop}
 use Rattle.quotes.specs.Tops.{ownOf}
 use Rattle.derived.specs.declared.tally.UsedPair.{UsedPair}

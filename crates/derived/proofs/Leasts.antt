@@ -3,7 +3,7 @@ use mathlib.Core.Path.{_≡_, refl, sym, subst}
 use mathlib.Core.List.{List, [], _∷_}
 use mathlib.Core.Bool.{Bool, true, false, cond}
 use mathlib.Core.Logic.{_⊎_, inl, inr, ⊎-elim}
-use Prim.Native.Nat.{ℕ, suc, _+_, _/_, _≤_, _<_, min}
+use Prim.Native.Nat.{ℕ, suc, _+_, _≤_, _<_, min}
 use native.Mathlib.Nat.{div-le-self}
 use native.Mathlib.Omega.{arith}
 use lib.ListN.{length, getD}
@@ -19,7 +19,7 @@ use Rattle.quotes.specs.declared.top.LegTop.{LegTop}
 use Rattle.quotes.specs.Shown.{Shown, contracts, soundLeg}
 use Rattle.quotes.specs.Tops.{ownOf, topOf}
 use Rattle.derived.specs.declared.prices.Derived.{Derived}
-use Rattle.derived.specs.Used.{SoundTop, usedPrice, ownBehind, behindPrice, levelBehind}
+use Rattle.derived.specs.Used.{SoundTop, usedPrice, behindPrice, levelBehind}
 use Rattle.derived.specs.Derived.{SeenLeg, seenFrom, seen, leastFrom, unitsIn, unitsOfLeg, unitsBehind, facing, priced, derivedOf, Least, LeastUnits}
 use Rattle.derived.specs.Tallies.{held}
 use Rattle.derived.proofs.Bounds.{top-sound, held-most}

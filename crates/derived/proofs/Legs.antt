@@ -17,7 +17,6 @@ use Rattle.terms.specs.declared.side.Side.{Side}
 use Rattle.terms.specs.declared.side.Side.the-variants.{Buy, Sell}
 use Rattle.terms.specs.Strategies.{soundLegs, smallestRatio}
 use Rattle.terms.proofs.SoundLegs.{sound-count, sound-range}
-use Rattle.quotes.specs.declared.level.Level.{Level}
 use Rattle.quotes.specs.declared.top.LegTop.{LegTop}
 use Rattle.quotes.specs.Shown.{Shown}
 use Rattle.quotes.specs.Tops.{topOf}
@@ -26,8 +25,8 @@ use Rattle.derived.specs.declared.tally.Backing.{Backing}
 use Rattle.derived.specs.declared.tally.Tally.{Tally}
 use Rattle.derived.specs.declared.tally.UsedPair.{UsedPair}
 use Rattle.derived.specs.Used.{SoundTop, usedPrice}
-use Rattle.derived.specs.Derived.{SeenLeg, seenAt, seenFrom, seen, facing, bothUsed, priced, noneCrossed, sumOver, customersBehind, unitsBehind, derivedOf, whenPriced}
-use Rattle.derived.specs.Tallies.{tally, noTally, pairOf, usedPair, valueOn, withLeg, forTrader, withNext, priceOn, derivedFrom, GoodLeg, GoodPair, SmallBacking, SmallTally}
+use Rattle.derived.specs.Derived.{SeenLeg, seenAt, seenFrom, seen, facing, bothUsed, priced, noneCrossed, sumOver, customersBehind, unitsBehind, derivedOf}
+use Rattle.derived.specs.Tallies.{tally, noTally, pairOf, usedPair, valueOn, forTrader, withNext, priceOn, derivedFrom, GoodLeg, GoodPair, SmallBacking, SmallTally}
 use Rattle.derived.proofs.Bounds.{used-within, pair-most}
 use Rattle.derived.proofs.Folds.{Uses, tally-more, priced-more, unpriced-leg}
 

@@ -1,8 +1,8 @@
 -- The derived prices as they grow leg by leg. No public contract cites these; Derived.antt has the rule.
 --   Backing     the sums, customers and units behind one net price, over the legs so far
 --   Tally       both backings, and whether no leg so far is crossed
-use mathlib.Core.List.{List, [], _∷_}
-use mathlib.Core.Bool.{Bool, true, cond, not, _&&_}
+use mathlib.Core.List.{List}
+use mathlib.Core.Bool.{true, cond, not, _&&_}
 use Prim.Native.Nat.{ℕ, _+_, _*_, _≤_, min}
 use lib.IntN.{ℤ, pos, _+ℤ_, _-ℤ_}
 use Rattle.std.specs.declared.option.Option.{Option}

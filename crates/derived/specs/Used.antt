@@ -7,6 +7,7 @@
 --   ownBehind      the own level whose price this is
 --   levelBehind    the own level behind the used price of a side
 --   usedIsOwn      whether there is one
+--   bestPrice      the higher of the own and the away bid, the lower of the own and the away offer
 --   crossed        the higher bid, own or away, reaches the lower offer
 use mathlib.Core.Path.{_≡_}
 use mathlib.Core.Bool.{Bool, true, false, cond}
@@ -70,10 +71,10 @@ usedIsOwn top side = isSome (levelBehind top side)
 
 -- ---- crossed legs
 
-abbrev pub furthest : Side → Option Level → Option ℕ → Option ℕ
-furthest side None away = away
-furthest side (Some own) None = Some (own .price)
-furthest side (Some own) (Some away) = Some (betterOf side (own .price) away)
+abbrev pub bestPrice : Side → Option Level → Option ℕ → Option ℕ
+bestPrice side None away = away
+bestPrice side (Some own) None = Some (own .price)
+bestPrice side (Some own) (Some away) = Some (betterOf side (own .price) away)
 
 abbrev pub reaches : Option ℕ → Option ℕ → Bool
 reaches None offer = false
@@ -81,7 +82,7 @@ reaches (Some bid) None = false
 reaches (Some bid) (Some offer) = leb offer bid
 
 abbrev pub crossed : LegTop → Bool
-crossed top = reaches (furthest Buy (top .bid) (top .«away_bid»)) (furthest Sell (top .offer) (top .«away_offer»))
+crossed top = reaches (bestPrice Buy (top .bid) (top .«away_bid»)) (bestPrice Sell (top .offer) (top .«away_offer»))
 
 -- ---- what a market keeps to
 

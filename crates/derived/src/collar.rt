@@ -1,6 +1,5 @@
 //! Deviations and collar values.
 ghost use mathlib.Core.Path.{_≡_};
-ghost use Prim.Native.Nat.{ℕ, _+_, _-_, _<_, _≤_};
 ghost use Rattle.derived.specs.Collars.{deviation, bands, collarIn, collar, CollarRule};
 
 // A band of prices, up to its limit, and the collar value there.

@@ -1,7 +1,6 @@
 //! The derived prices of a strategy on any market.
 ghost use denote.Ref.{now};
 ghost use mathlib.Core.Path.{_≡_};
-ghost use Prim.Native.Nat.{ℕ, _+_, _-_, _<_, _≤_};
 ghost use Rattle.terms.specs.Made.{legsOf};
 ghost use Rattle.derived.specs.Derived.{derivedOf, dbbOf, dboOf, collarsOf, mayMeet, legUnits, LeastUnits};
 use super::tally::derived_from;

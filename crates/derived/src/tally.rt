@@ -1,9 +1,6 @@
 //! The sums and least values behind the derived prices, leg by leg.
 ghost use mathlib.Core.Path.{_≡_};
-ghost use mathlib.Core.Bool.{true};
-ghost use Prim.Native.Nat.{ℕ, _+_, _-_, _*_, _<_, _≤_};
-ghost use lib.IntN.{ℤ, pos, _+ℤ_, _-ℤ_};
-ghost use Rattle.terms.specs.declared.side.Side.{Side};
+ghost use Prim.Native.Nat.{_≤_};
 ghost use Rattle.derived.specs.Used.{SoundTop};
 ghost use Rattle.derived.specs.Derived.{facing, hasCustomers, unitsIn};
 ghost use Rattle.derived.specs.Tallies.{usedPair, priceOn, held, withLeg, forTrader, withNext, GoodLeg, GoodPair, SmallBacking, SmallTally, noTally, netOf, topOver, bottomUnder, derivedFrom};

@@ -1,10 +1,9 @@
 //! Used prices of a leg.
 ghost use denote.Ref.{now};
 ghost use mathlib.Core.Path.{_≡_};
-ghost use mathlib.Core.Bool.{true};
-ghost use Prim.Native.Nat.{ℕ, _+_, _-_, _<_, _≤_};
+ghost use Prim.Native.Nat.{_≤_};
 ghost use Rattle.quotes.specs.Tops.{topOf};
-ghost use Rattle.derived.specs.Used.{SoundTop, Within, bound, betterOf, quoted, quotedPrice, fromOpposite, usedPrice, ownBehind, usedIsOwn, furthest, crossed};
+ghost use Rattle.derived.specs.Used.{SoundTop, Within, bound, betterOf, quoted, quotedPrice, fromOpposite, usedPrice, ownBehind, usedIsOwn, bestPrice, crossed};
 use super::collar::collar_value;
 use super::collar::deviation;
 use market::leg_market::MarketView;
@@ -88,9 +87,9 @@ pub(crate) fn own_behind(level: Option<Level>, price: u32) -> Option<Level>
     if own.price == price { level } else { None }
 }
 
-// The best price of a side, own or away.
-fn furthest(side: Side, own: Option<Level>, away: Option<u32>) -> Option<u32>
-    ensures { λ r. ⌜ r ≡ furthest side own away ⌝ }
+// The higher bid or the lower offer, own or away.
+fn best_price(side: Side, own: Option<Level>, away: Option<u32>) -> Option<u32>
+    ensures { λ r. ⌜ r ≡ bestPrice side own away ⌝ }
 {
     let Some(level) = own else {
         return away;
@@ -105,10 +104,10 @@ fn furthest(side: Side, own: Option<Level>, away: Option<u32>) -> Option<u32>
 pub(crate) fn crossed(top: &LegTop) -> bool
     ensures { λ r. ⌜ r ≡ crossed (now (top .entry)) ⌝ }
 {
-    let Some(bid) = furthest(Side::Buy, top.bid, top.away_bid) else {
+    let Some(bid) = best_price(Side::Buy, top.bid, top.away_bid) else {
         return false;
     };
-    let Some(offer) = furthest(Side::Sell, top.offer, top.away_offer) else {
+    let Some(offer) = best_price(Side::Sell, top.offer, top.away_offer) else {
         return false;
     };
     offer <= bid

@@ -1,7 +1,7 @@
 //! The quote sheet: six legs with at most one own level on each side, set by calls.
 ghost use mathlib.Core.Path.{_≡_};
 ghost use mathlib.Core.Bool.{true};
-ghost use Prim.Native.Nat.{ℕ, _+_, _-_, _<_, _≤_};
+ghost use Prim.Native.Nat.{ℕ};
 ghost use lib.ListN.{length};
 ghost use Rattle.terms.specs.declared.side.Side.{Side};
 ghost use Rattle.quotes.specs.Shown.{nothing};

@@ -1,6 +1,5 @@
 //! Changes to the legs of a quote sheet, on the plain records.
 ghost use mathlib.Core.Path.{_≡_};
-ghost use Prim.Native.Nat.{ℕ, _+_, _-_, _<_, _≤_};
 ghost use lib.ListN.{length};
 ghost use Rattle.quotes.specs.Takes.{takeAnswer};
 ghost use Rattle.quotes.specs.Sheets.{shownOf, answered, ownRefusal, ownPut, awayRefusal, awayPut, takePut};

@@ -1,8 +1,8 @@
 -- One leg of depth 1: what a take and a new own level or away price leave of it is sound.
 use mathlib.Core.Path.{_≡_, refl}
-use mathlib.Core.List.{List, [], _∷_}
+use mathlib.Core.List.{[], _∷_}
 use mathlib.Core.Bool.{Bool, true, false, cond}
-use Prim.Native.Nat.{ℕ, zero, suc, _≤_, _<_}
+use Prim.Native.Nat.{ℕ, zero, suc, _<_}
 use native.Mathlib.Omega.{arith}
 use lib.Dec.{leb, ltb}
 use lib.ListN.{length}
@@ -18,7 +18,7 @@ use Rattle.quotes.specs.declared.top.LegTop.{LegTop}
 use Rattle.quotes.specs.Shown.{contracts, soundLeg, soundLevels, soundAway, uncrossed}
 use Rattle.quotes.specs.Takes.{mayTake, lessened, lessBest, levelLeft}
 use Rattle.quotes.specs.Tops.{ownOf, withOwn, withAway, listOf, quotesOf}
-use Rattle.quotes.specs.Sheets.{awayGiven, levelGiven, levelRefusal, ownLeft}
+use Rattle.quotes.specs.Sheets.{levelGiven, levelRefusal, ownLeft}
 use Rattle.quotes.proofs.Parts.{side-parts, side-whole, leg-parts, leg-whole}
 
 -- ---- a take
@@ -103,9 +103,6 @@ set-away-keeps top Sell price e h =
     let o = side-parts 1 Sell (quotesOf top Sell) (p .offers) in
     leg-whole 1 (quotesOf (withAway top Sell price))
     (record { bids = p .bids; offers = side-whole 1 Sell (quotesOf (withAway top Sell price) Sell) (record { short = o .short; levels = o .levels; away = e }); apart = p .apart })
-
-pub given-sound : (price : ℕ) → price ≤ 1000000 → soundAway (awayGiven price) ≡ true
-given-sound price h = grind (arith, tells)
 
 -- ---- the sides of a changed leg
 

@@ -9,7 +9,7 @@
 --   answered        what a call answers: the refusal, or its value
 use mathlib.Core.List.{List, [], _∷_}
 use mathlib.Core.Bool.{Bool, true, false, cond, _&&_}
-use Prim.Native.Nat.{ℕ, _+_}
+use Prim.Native.Nat.{ℕ}
 use lib.Dec.{eqb, ltb, leb}
 use lib.ListN.{getD, set}
 use Rattle.std.specs.declared.option.Option.{Option}
@@ -23,7 +23,7 @@ use Rattle.terms.specs.declared.side.Side.the-variants.{Buy, Sell}
 use Rattle.terms.specs.Sides.{opposite}
 use Rattle.quotes.specs.declared.level.Level.{Level}
 use Rattle.quotes.specs.declared.top.LegTop.{LegTop}
-use Rattle.quotes.specs.Shown.{SideQuotes, Shown, contracts, soundLevel, soundLeg, soundAway}
+use Rattle.quotes.specs.Shown.{Shown, contracts, soundLevel, soundLeg, soundAway}
 use Rattle.quotes.specs.Takes.{replaced, mayTake, levelLeft}
 use Rattle.quotes.specs.Tops.{noTop, quotesOf, listOf, ownOf, withOwn, withAway}
 

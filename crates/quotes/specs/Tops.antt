@@ -11,7 +11,7 @@ use Rattle.terms.specs.declared.side.Side.{Side}
 use Rattle.terms.specs.declared.side.Side.the-variants.{Buy, Sell}
 use Rattle.quotes.specs.declared.level.Level.{Level}
 use Rattle.quotes.specs.declared.top.LegTop.{LegTop}
-use Rattle.quotes.specs.Shown.{SideQuotes, LegQuotes}
+use Rattle.quotes.specs.Shown.{LegQuotes}
 use Rattle.quotes.specs.Takes.{best}
 
 abbrev pub noTop : LegTop

@@ -1,6 +1,5 @@
 //! Levels of a leg's own bids or offers.
 ghost use mathlib.Core.Path.{_≡_};
-ghost use Prim.Native.Nat.{ℕ, _+_, _-_, _<_, _≤_};
 ghost use lib.Dec.{eqb};
 ghost use Rattle.quotes.specs.Shown.{contracts, soundLevel};
 ghost use Rattle.quotes.specs.Takes.{levelTaken};

@@ -1,6 +1,5 @@
 //! The top of a leg: its best own level and its away price on each side.
 ghost use mathlib.Core.Path.{_≡_};
-ghost use Prim.Native.Nat.{ℕ, _+_, _-_, _<_, _≤_};
 ghost use Rattle.quotes.specs.Tops.{ownOf, awayOf, withOwn, withAway, noTop, listOf};
 ghost use Rattle.quotes.specs.Sheets.{awayGiven, levelGiven, levelRefusal, wouldReach};
 use super::level::Level;

@@ -11,7 +11,7 @@
 use mathlib.Core.Path.{_≡_}
 use mathlib.Core.List.{List, [], _∷_}
 use mathlib.Core.Bool.{Bool, true, false, cond, not, _&&_, _||_}
-use Prim.Native.Nat.{ℕ, zero, suc, _+_, _%_, _≤_, _<_, min}
+use Prim.Native.Nat.{ℕ, zero, suc, _%_, _≤_, _<_, min}
 use lib.Dec.{eqb, leb}
 use lib.ListN.{length, getD}
 use Rattle.std.specs.shelf.Lists.{All}

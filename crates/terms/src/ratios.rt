@@ -1,6 +1,6 @@
 //! What is asked of the legs of a strategy.
 ghost use mathlib.Core.Path.{_≡_};
-ghost use Prim.Native.Nat.{ℕ, _+_, _-_, _<_, _≤_};
+ghost use Prim.Native.Nat.{_≤_};
 ghost use Rattle.terms.specs.Strategies.{ratiosInRange, dividesAll, commonFactor, allOnSide, allOfKind, legsRefusal};
 use super::leg::Leg;
 use super::leg::OptionKind;

@@ -1,7 +1,6 @@
 //! Making a strategy and reading it.
 ghost use mathlib.Core.Path.{_≡_};
 ghost use mathlib.Core.Bool.{true};
-ghost use Prim.Native.Nat.{ℕ, _+_, _-_, _<_, _≤_};
 ghost use Rattle.std.specs.Results.{isOk};
 ghost use Rattle.terms.specs.Strategies.{strategyAnswer, soundLegs, smallestRatio, everyEcoComplexOnly, SmallestOf, MadeExactlyOf};
 ghost use Rattle.terms.specs.Made.{legsOf, answerLegs};

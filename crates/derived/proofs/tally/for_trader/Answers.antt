@@ -1,4 +1,3 @@
-use borrow.Author.Needs.{needs}
 use Rattle.derived.proofs.Bounds.{held-most, pair-most}
 use Rattle.derived.proofs.tally.for_trader.Needs as need
 
