@@ -23,8 +23,8 @@ pub struct Derived {
 
 // Absent where a leg has no used prices.
 pub fn derived_prices<M: MarketView>(strategy: &Strategy, market: &M) -> Option<Derived>
-    ensures value { result ≡ derived_of (shown market.now) (legs_of strategy.now) }
-    ensures least { LeastUnits (shown market.now) (legs_of strategy.now) result }
+    ensures value { result ≡ derived_of (M.shown market.now) (legs_of strategy.now) }
+    ensures least { LeastUnits (M.shown market.now) (legs_of strategy.now) result }
 {
     let legs = strategy.legs();
     let mut tally = no_legs();
@@ -40,7 +40,7 @@ pub fn derived_prices<M: MarketView>(strategy: &Strategy, market: &M) -> Option<
 
 // The derived best bid.
 pub fn dbb<M: MarketView>(strategy: &Strategy, market: &M) -> Option<i64>
-    ensures { result ≡ dbb_of (derived_of (shown market.now) (legs_of strategy.now)) }
+    ensures { result ≡ dbb_of (derived_of (M.shown market.now) (legs_of strategy.now)) }
 {
     let Some(derived) = derived_prices(strategy, market) else {
         return None;
@@ -50,7 +50,7 @@ pub fn dbb<M: MarketView>(strategy: &Strategy, market: &M) -> Option<i64>
 
 // The derived best offer.
 pub fn dbo<M: MarketView>(strategy: &Strategy, market: &M) -> Option<i64>
-    ensures { result ≡ dbo_of (derived_of (shown market.now) (legs_of strategy.now)) }
+    ensures { result ≡ dbo_of (derived_of (M.shown market.now) (legs_of strategy.now)) }
 {
     let Some(derived) = derived_prices(strategy, market) else {
         return None;
@@ -60,7 +60,7 @@ pub fn dbo<M: MarketView>(strategy: &Strategy, market: &M) -> Option<i64>
 
 // Bottom and top.
 pub fn collars<M: MarketView>(strategy: &Strategy, market: &M) -> Option<(i64, i64)>
-    ensures { result ≡ collars_of (derived_of (shown market.now) (legs_of strategy.now)) }
+    ensures { result ≡ collars_of (derived_of (M.shown market.now) (legs_of strategy.now)) }
 {
     let Some(derived) = derived_prices(strategy, market) else {
         return None;
@@ -69,7 +69,7 @@ pub fn collars<M: MarketView>(strategy: &Strategy, market: &M) -> Option<(i64, i
 }
 
 pub fn may_meet<M: MarketView>(strategy: &Strategy, market: &M) -> bool
-    ensures { result ≡ orders_may_meet (derived_of (shown market.now) (legs_of strategy.now)) }
+    ensures { result ≡ orders_may_meet (derived_of (M.shown market.now) (legs_of strategy.now)) }
 {
     match derived_prices(strategy, market) {
         Some(derived) => derived.may_meet,
@@ -79,7 +79,7 @@ pub fn may_meet<M: MarketView>(strategy: &Strategy, market: &M) -> bool
 
 // The units that the own levels behind DBO hold for a buyer, those behind DBB for a seller.
 pub fn leg_units<M: MarketView>(strategy: &Strategy, market: &M, trader: Side) -> u32
-    ensures { result ≡ leg_units trader (derived_of (shown market.now) (legs_of strategy.now)) }
+    ensures { result ≡ leg_units trader (derived_of (M.shown market.now) (legs_of strategy.now)) }
 {
     let Some(derived) = derived_prices(strategy, market) else {
         return 0;

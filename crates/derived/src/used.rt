@@ -113,7 +113,7 @@ pub(crate) fn crossed(top: &LegTop) -> bool
 
 // The best own level and the away price of each side of a leg.
 pub(crate) fn leg_top<M: MarketView>(market: &M, leg: usize) -> LegTop
-    ensures value { result ≡ top_of (shown market.now leg) }
+    ensures value { result ≡ top_of (M.shown market.now leg) }
     ensures sound { SoundTop result }
 {
     LegTop {
@@ -126,7 +126,7 @@ pub(crate) fn leg_top<M: MarketView>(market: &M, leg: usize) -> LegTop
 
 // The used bid of a leg for the buy side, its used offer for the sell side.
 pub fn used_price<M: MarketView>(market: &M, leg: usize, side: Side) -> Option<u32>
-    ensures { result ≡ used_price (top_of (shown market.now leg)) side }
+    ensures { result ≡ used_price (top_of (M.shown market.now leg)) side }
 {
     let top = leg_top(market, leg);
     used_in(&top, side)
@@ -134,7 +134,7 @@ pub fn used_price<M: MarketView>(market: &M, leg: usize, side: Side) -> Option<u
 
 // Whether the used price is that of the best own level.
 pub fn is_own<M: MarketView>(market: &M, leg: usize, side: Side) -> bool
-    ensures { result ≡ used_is_own (top_of (shown market.now leg)) side }
+    ensures { result ≡ used_is_own (top_of (M.shown market.now leg)) side }
 {
     let seen = leg_top(market, leg);
     let Some(price) = used_in(&seen, side) else {

@@ -1,3 +1,5 @@
 //! Leg orders: their rank, the levels they make, and what adding, withdrawing and taking leave of them.
+#![tactic(auto)]
+
 pub mod away_prices;
 pub mod order;

@@ -1,4 +1,6 @@
 //! The leg market, the quote sheet, and trials over a market.
+#![tactic(auto)]
+
 pub mod leg_market;
 pub mod reader;
 pub mod sheet;

@@ -24,7 +24,7 @@ pub struct Trial<M> {
 
 impl<M: MarketView> Trial<M> {
     pub fn new(below: M) -> Trial<M>
-        ensures quotes { (l : ℕ) (s : Side) → tried (shown result.below) result.totals l s ≡ shown below l s }
+        ensures quotes { (l : ℕ) (s : Side) → tried (M.shown result.below) result.totals l s ≡ M.shown below l s }
         ensures below { result.below ≡ below }
         ensures totals { result.totals ≡ replicate 6 none_taken }
     {
@@ -36,7 +36,7 @@ impl<M: MarketView> Trial<M> {
 
     // Goes on with what was taken in an earlier trial, even where less stands now.
     pub fn resume(below: M, totals: [Taken; 6]) -> Trial<M>
-        ensures quotes { (l : ℕ) (s : Side) → tried (shown result.below) result.totals l s ≡ tried (shown below) totals l s }
+        ensures quotes { (l : ℕ) (s : Side) → tried (M.shown result.below) result.totals l s ≡ tried (M.shown below) totals l s }
         ensures below { result.below ≡ below }
         ensures totals { result.totals ≡ totals }
     {
@@ -46,7 +46,7 @@ impl<M: MarketView> Trial<M> {
     // The market below: what the trial shows is what stands there, less what was taken.
     pub fn below(&self) -> &M
         ensures below { result.now ≡ self.now.below }
-        ensures held { (l : ℕ) (s : Side) → held (tried (shown self.now.below) self.now.totals l s).own ≡ held (shown self.now.below l s).own - taken_at self.now.totals l s }
+        ensures held { (l : ℕ) (s : Side) → held (tried (M.shown self.now.below) self.now.totals l s).own ≡ held (M.shown self.now.below l s).own - taken_at self.now.totals l s }
     {
         &self.below
     }
@@ -68,7 +68,7 @@ impl<M: MarketView> Trial<M> {
 impl<M: MarketView + Drop> Trial<M> {
     // Goes on over quotes that have moved; what was taken stays taken.
     pub fn moved(self, below: M) -> Trial<M>
-        ensures quotes { (l : ℕ) (s : Side) → tried (shown result.below) result.totals l s ≡ tried (shown below) self.totals l s }
+        ensures quotes { (l : ℕ) (s : Side) → tried (M.shown result.below) result.totals l s ≡ tried (M.shown below) self.totals l s }
         ensures below { result.below ≡ below }
         ensures totals { result.totals ≡ self.totals }
     {
@@ -108,10 +108,10 @@ impl<M: MarketView> MarketView for Trial<M> {
 
 impl<M: MarketView> LegMarket for Trial<M> {
     fn take(&mut self, leg: usize, side: Side, quantity: u32) -> Result<(), Refusal>
-        ensures answer { result ≡ take_answer (tried (shown self.old.below) self.old.totals leg side).own quantity }
-        ensures quotes { (l : ℕ) (s : Side) → tried (shown self.new.below) self.new.totals l s ≡ taken (tried (shown self.old.below) self.old.totals) leg side quantity l s }
+        ensures answer { result ≡ take_answer (tried (M.shown self.old.below) self.old.totals leg side).own quantity }
+        ensures quotes { (l : ℕ) (s : Side) → tried (M.shown self.new.below) self.new.totals l s ≡ taken (tried (M.shown self.old.below) self.old.totals) leg side quantity l s }
         ensures below { self.new.below ≡ self.old.below }
-        ensures totals { self.new.totals ≡ taken_more self.old.totals leg side (tried (shown self.old.below) self.old.totals leg side).own quantity }
+        ensures totals { self.new.totals ≡ taken_more self.old.totals leg side (tried (M.shown self.old.below) self.old.totals leg side).own quantity }
     {
         let total = total_at(&self.totals, leg, side);
         let Some(found) = first_left(&self.below, leg, side, total) else {

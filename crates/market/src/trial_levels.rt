@@ -15,7 +15,7 @@ pub(crate) fn first_left<M: MarketView>(
     side: Side,
     total: u32,
 ) -> Option<Found>
-    ensures { Finds (shown below.now leg side).own total result }
+    ensures { Finds (M.shown below.now leg side).own total result }
 {
     let mut more = total;
     for place in 0..M::max_levels() {
@@ -38,7 +38,7 @@ pub(crate) fn level_left<M: MarketView>(
     total: u32,
     place: usize,
 ) -> Option<Level>
-    ensures { result ≡ slice_get (less_taken (shown below.now leg side).own total) place }
+    ensures { result ≡ slice_get (less_taken (M.shown below.now leg side).own total) place }
 {
     if place >= M::max_levels() {
         return None;

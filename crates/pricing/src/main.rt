@@ -1,4 +1,6 @@
 //! Prices strategies on a quote sheet, and shows on which quotes each price rests.
+#![tactic(auto)]
+
 use derived::prices::derived_prices;
 use derived::used::{is_own, used_price};
 use market::leg_market::MarketView;

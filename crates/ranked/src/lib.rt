@@ -1,4 +1,6 @@
 //! A list in rank order over memory that its caller lends.
+#![tactic(auto)]
+
 pub mod list;
 mod moves;
 pub mod rank;

@@ -57,7 +57,7 @@ impl<'a, T: Rank + Copy> Ranked<'a, T> {
 
     // The place of the first record with this number.
     pub fn find(&self, number: u32) -> Option<usize>
-        ensures { Found numbered (items self.now) number result }
+        ensures { Found T.numbered (items self.now) number result }
     {
         find_number(self.as_slice(), number)
     }
@@ -65,7 +65,7 @@ impl<'a, T: Rank + Copy> Ranked<'a, T> {
     // The first place whose record `x` precedes, or the end.
     pub fn place_of(&self, x: &T) -> usize
         ensures within { result ≤ length (items self.now) }
-        ensures place { in_order before (items self.now) ≡ true → result ≡ place_for before x.now (items self.now) }
+        ensures place { in_order T.before (items self.now) ≡ true → result ≡ place_for T.before x.now (items self.now) }
     {
         search_place(self.as_slice(), x)
     }
@@ -76,8 +76,8 @@ impl<'a, T: Rank + Copy> Ranked<'a, T> {
         ensures full { is_none result ≡ nat_le (room self.old) (length (items self.old)) }
         ensures within { (k : ℕ) → result ≡ Some k → k ≤ length (items self.old) }
         ensures list { items self.new ≡ inserted_at (items self.old) result x }
-        ensures place { in_order before (items self.old) ≡ true → result ≡ place_given before x (items self.old) (room self.old) }
-        ensures order { in_order before (items self.old) ≡ true → in_order before (items self.new) ≡ true }
+        ensures place { in_order T.before (items self.old) ≡ true → result ≡ place_given T.before x (items self.old) (room self.old) }
+        ensures order { in_order T.before (items self.old) ≡ true → in_order T.before (items self.new) ≡ true }
     {
         let Some(place) = self.free_place(&x) else {
             return None;
@@ -91,7 +91,7 @@ impl<'a, T: Rank + Copy> Ranked<'a, T> {
         ensures room { room self.new ≡ room self.old }
         ensures answer { result ≡ slice_get (items self.old) place }
         ensures list { items self.new ≡ remove (items self.old) place }
-        ensures order { in_order before (items self.old) ≡ true → in_order before (items self.new) ≡ true }
+        ensures order { in_order T.before (items self.old) ≡ true → in_order T.before (items self.new) ≡ true }
     {
         let x = self.get(place);
         self.take_out(place);
@@ -101,9 +101,9 @@ impl<'a, T: Rank + Copy> Ranked<'a, T> {
     // Puts `y` in the place of a record of the same rank.
     pub fn replace(&mut self, place: usize, y: T) -> bool
         ensures room { room self.new ≡ room self.old }
-        ensures answer { result ≡ may_set before (slice_get (items self.old) place) y }
+        ensures answer { result ≡ may_set T.before (slice_get (items self.old) place) y }
         ensures list { items self.new ≡ (if result then slice_set (items self.old) place y else items self.old) }
-        ensures order { in_order before (items self.old) ≡ true → in_order before (items self.new) ≡ true }
+        ensures order { in_order T.before (items self.old) ≡ true → in_order T.before (items self.new) ≡ true }
     {
         if self.may_put(place, &y) {
             self.put(place, y);
@@ -117,7 +117,7 @@ impl<'a, T: Rank + Copy> Ranked<'a, T> {
     fn free_place(&self, x: &T) -> Option<usize>
         ensures full { is_none result ≡ nat_le (room self.now) (length (items self.now)) }
         ensures within { (k : ℕ) → result ≡ Some k → k ≤ length (items self.now) }
-        ensures place { in_order before (items self.now) ≡ true → result ≡ place_given before x.now (items self.now) (room self.now) }
+        ensures place { in_order T.before (items self.now) ≡ true → result ≡ place_given T.before x.now (items self.now) (room self.now) }
     {
         if self.len() < self.room() {
             Some(self.place_of(x))
@@ -130,7 +130,7 @@ impl<'a, T: Rank + Copy> Ranked<'a, T> {
         requires { (place ≤ length (items self.old)) × (length (items self.old) < room self.old) }
         ensures room { room self.new ≡ room self.old }
         ensures list { items self.new ≡ insert (items self.old) place x }
-        ensures order { in_order before (items self.old) ≡ true → Some place ≡ place_given before x (items self.old) (room self.old) → in_order before (items self.new) ≡ true }
+        ensures order { in_order T.before (items self.old) ≡ true → Some place ≡ place_given T.before x (items self.old) (room self.old) → in_order T.before (items self.new) ≡ true }
     {
         let len = self.len();
         open_gap(self.slots, place, len, x);
@@ -140,7 +140,7 @@ impl<'a, T: Rank + Copy> Ranked<'a, T> {
     fn take_out(&mut self, place: usize)
         ensures room { room self.new ≡ room self.old }
         ensures list { items self.new ≡ remove (items self.old) place }
-        ensures order { in_order before (items self.old) ≡ true → in_order before (items self.new) ≡ true }
+        ensures order { in_order T.before (items self.old) ≡ true → in_order T.before (items self.new) ≡ true }
     {
         let len = self.len();
         if place < len {
@@ -151,7 +151,7 @@ impl<'a, T: Rank + Copy> Ranked<'a, T> {
 
     // Whether `y` has the rank of the record at `place`.
     fn may_put(&self, place: usize, y: &T) -> bool
-        ensures { result ≡ may_set before (slice_get (items self.now) place) y.now }
+        ensures { result ≡ may_set T.before (slice_get (items self.now) place) y.now }
     {
         let Some(x) = self.get(place) else {
             return false;
@@ -162,7 +162,7 @@ impl<'a, T: Rank + Copy> Ranked<'a, T> {
     fn put(&mut self, place: usize, y: T)
         ensures room { room self.new ≡ room self.old }
         ensures list { items self.new ≡ slice_set (items self.old) place y }
-        ensures order { in_order before (items self.old) ≡ true → may_set before (slice_get (items self.old) place) y ≡ true → in_order before (items self.new) ≡ true }
+        ensures order { in_order T.before (items self.old) ≡ true → may_set T.before (slice_get (items self.old) place) y ≡ true → in_order T.before (items self.new) ≡ true }
     {
         if place < self.len() {
             let records: &mut [T] = &mut *self.slots;

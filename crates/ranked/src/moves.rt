@@ -29,7 +29,7 @@ pub(crate) fn read<T: Copy>(records: &[T], place: usize) -> Option<T>
 // The first place whose record `x` precedes, or the end, by halves.
 pub(crate) fn search_place<T: Rank>(records: &[T], x: &T) -> usize
     ensures within { result ≤ length records.now }
-    ensures place { in_order before records.now ≡ true → result ≡ place_for before x.now records.now }
+    ensures place { in_order T.before records.now ≡ true → result ≡ place_for T.before x.now records.now }
 {
     let mut low = 0;
     let mut high = records.len();
@@ -45,7 +45,7 @@ pub(crate) fn search_place<T: Rank>(records: &[T], x: &T) -> usize
 }
 
 pub(crate) fn find_number<T: Rank>(records: &[T], number: u32) -> Option<usize>
-    ensures { Found numbered records.now number result }
+    ensures { Found T.numbered records.now number result }
 {
     let mut place = 0;
     while place < records.len() {

@@ -1,4 +1,6 @@
 //! Fills a depth book, takes from it in a trial that leaves it as it is, and then takes for real.
+#![tactic(auto)]
+
 use depth_book::book::DepthBook;
 use depth_book::memory::OrderMemory;
 use leg_orders::order::LegOrder;

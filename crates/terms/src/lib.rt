@@ -1,4 +1,6 @@
 //! The words of the trade: sides, legs, strategies, and the refusals of the whole product.
+#![tactic(auto)]
+
 pub mod leg;
 mod ratios;
 pub mod refusal;

@@ -6,11 +6,11 @@ use Rattle.leg_orders.specs.Scans.{used_from}
 use Rattle.leg_orders.proofs.UsedFrom.{nth-within, nth-missing, used-past, used_all, part-replaced}
 use Rattle.depth_book.proofs.uses.use_up.Goals as goal
 
-pub returns-in-default : goal.returns-in-default
-returns-in-default c =
+pub returns-in_default : goal.returns-in_default
+returns-in_default c =
     let inv = c.loop-orders.invariant in
     let xs = items c.loop-orders.orders in
-    let past : length xs ≤ c.args.start = nth-missing xs c.args.start c.in-default.ensures in
+    let past : length xs ≤ c.args.start = nth-missing xs c.args.start c.in_default.ensures in
     record { room = inv.0; list = sym (used-past xs c.args.start c.loop-orders.left past) ∙ inv.1; order = inv.2 }
 
 pub returns-then-left-order : goal.returns-then-left-order
@@ -22,7 +22,7 @@ returns-then-left-order c =
     let x = c.in-Some.order in
     let read = c.in-Some.ensures in
     let is : items c.replace.new.self ≡ used_from start left xs =
-    part-replaced xs (items c.replace.new.self) start left x c.with-fewer.result c.replace.result read c.if-left-order.true c.with-fewer.ensures c.replace.ensures.answer c.replace.ensures.list in
+    part-replaced xs (items c.replace.new.self) start left x c.with_fewer.result c.replace.result read c.if-left-order.true c.with_fewer.ensures c.replace.ensures.answer c.replace.ensures.list in
     record {
       room = c.replace.ensures.room ∙ inv.0;
       list = is ∙ inv.1;

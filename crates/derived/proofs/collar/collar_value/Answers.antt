@@ -6,5 +6,5 @@ use Rattle.derived.proofs.collar.collar_value.Goals as goal
 pub returns : goal.returns
 unfolding collar
 returns c =
-    let value : c.amount-in-table.result ≡ collar c.args.price = c.amount-in-table.ensures in
-    record { value = value; rule = rule-of c.args.price c.amount-in-table.result value }
+    let value : c.amount_in_table.result ≡ collar c.args.price = c.amount_in_table.ensures in
+    record { value = value; rule = rule-of c.args.price c.amount_in_table.result value }

@@ -4,13 +4,13 @@ use Rattle.quotes.proofs.Trials.{side-length}
 use Rattle.quotes.proofs.Walks.{nth-behind, nth-short}
 use Rattle.market.proofs.trial_levels.level_left.Goals as goal
 
-pub returns-then-place-max-levels : goal.returns-then-place-max-levels
-returns-then-place-max-levels g c =
+pub returns-then-place-max_levels : goal.returns-then-place-max_levels
+returns-then-place-max_levels g c =
     let m = g.M.MarketView in
     let a = c.args in
     let shown = m.shown a.below.now in
     let own = (shown a.leg a.side).own in
-    let short : length own ≤ a.place = omega (arith, side-length m.depth shown (m.sound a.below.now) a.leg a.side, c.max-levels.ensures, c.if-place-max-levels.true) in
+    let short : length own ≤ a.place = omega (arith, side-length m.depth shown (m.sound a.below.now) a.leg a.side, c.max_levels.ensures, c.if-place-max_levels.true) in
     nth-short own a.total a.place short
 
 pub returns : goal.returns

@@ -3,8 +3,8 @@ use Rattle.terms.proofs.AllLegs.{decides-divides-all}
 use Rattle.terms.proofs.Factors.{decides-factor, no-factor-more}
 use Rattle.terms.proofs.ratios.has_common_factor.Goals as goal
 
-pub returns-then-divides-all : goal.returns-then-divides-all
-returns-then-divides-all c =
+pub returns-then-divides_all : goal.returns-then-divides_all
+returns-then-divides_all c =
     let legs = c.args.legs.now in
     let d = c.loop-divisor.divisor in
     sym ((decides-factor 100 legs).1 (d, omega arith, omega arith, (decides-divides-all d legs).0 (cc)))

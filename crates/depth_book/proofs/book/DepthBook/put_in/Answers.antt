@@ -6,14 +6,14 @@ use Rattle.depth_book.specs.Books.{standing}
 use Rattle.depth_book.proofs.Held.{held}
 use Rattle.depth_book.proofs.book.DepthBook.put_in.Goals as goal
 
-pub invariant-of-self : goal.invariant-of-self
-invariant-of-self c =
+pub invariant_of-self : goal.invariant_of-self
+invariant_of-self c =
     let m = c.args.self.now in
     let out = added m.added (room m.orders) (standing m) (items c.insert.new.self) m.away c.args.order c.insert.result c.requires.next (held m) c.requires.fits c.insert.ensures.place c.insert.ensures.list c.insert.ensures.order in
-    (out.kept.ranked, (out.kept.fine, (out.kept.numbers, (out.few, (m.long, (out.kept.sound, tt))))))
+    record { ranked = out.kept.ranked; fine = out.kept.fine; numbers = out.kept.numbers; few = out.few; long = m.long; sound = out.kept.sound }
 
 pub returns : goal.returns
 returns c =
     let m = c.args.self.now in
     let out = added m.added (room m.orders) (standing m) (items c.insert.new.self) m.away c.args.order c.insert.result c.requires.next (held m) c.requires.fits c.insert.ensures.place c.insert.ensures.list c.insert.ensures.order in
-    record { orders = out.in-rank; added = refl; quotes = out.shows; room = c.insert.ensures.room }
+    record { orders = out.in_rank; added = refl; quotes = out.shows; room = c.insert.ensures.room }

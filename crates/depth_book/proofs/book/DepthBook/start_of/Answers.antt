@@ -11,7 +11,7 @@ pub returns : goal.returns
 returns c =
     let book = c.args.self.now in
     let xs = items book.orders in
-    let at : c.place-of.result ≡ place_for leg_before (ahead_of c.args.leg c.args.side) xs =
-    c.place-of.ensures.place book.ranked ∙ ap (λ (mark : LegOrder). place_for leg_before mark xs) c.ahead-of.ensures in
-    let scan = start-scan xs book.away c.args.leg c.args.side c.place-of.result book.ranked book.fine book.sound at in
+    let at : c.place_of.result ≡ place_for leg_before (ahead_of c.args.leg c.args.side) xs =
+    c.place_of.ensures.place book.ranked ∙ ap (λ (mark : LegOrder). place_for leg_before mark xs) c.ahead_of.ensures in
+    let scan = start-scan xs book.away c.args.leg c.args.side c.place_of.result book.ranked book.fine book.sound at in
     record { place = at; scan = scan.0; levels = scan.1 }

@@ -7,11 +7,11 @@ use Rattle.depth_book.specs.Books.{standing}
 use Rattle.depth_book.proofs.Held.{held}
 use Rattle.depth_book.proofs.book.DepthBook.take_out.Goals as goal
 
-pub invariant-of-self : goal.invariant-of-self
-invariant-of-self c =
+pub invariant_of-self : goal.invariant_of-self
+invariant_of-self c =
     let m = c.args.self.now in
     let out = withdrawn m.added (standing m) (items c.remove.new.self) m.away c.args.number c.args.place blank_order (held m) c.requires c.remove.ensures.list c.remove.ensures.order in
-    (out.kept.ranked, (out.kept.fine, (out.kept.numbers, (m.few, (m.long, (out.kept.sound, tt))))))
+    record { ranked = out.kept.ranked; fine = out.kept.fine; numbers = out.kept.numbers; few = m.few; long = m.long; sound = out.kept.sound }
 
 pub returns : goal.returns
 returns c =

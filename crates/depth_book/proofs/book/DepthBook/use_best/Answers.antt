@@ -6,16 +6,16 @@ use Rattle.depth_book.specs.Books.{standing}
 use Rattle.depth_book.proofs.Held.{held}
 use Rattle.depth_book.proofs.book.DepthBook.use_best.Goals as goal
 
-pub invariant-of-self : goal.invariant-of-self
-invariant-of-self c =
+pub invariant_of-self : goal.invariant_of-self
+invariant_of-self c =
     let m = c.args.self.now in
     let a = c.args in
-    let out = took m.added (standing m) (items c.use-up.new.orders) m.away a.leg a.side a.quantity c.start-of-start.result (held m) c.requires c.start-of-start.ensures.place c.use-up.ensures.list c.use-up.ensures.order in
-    (out.kept.ranked, (out.kept.fine, (out.kept.numbers, (m.few, (m.long, (out.kept.sound, tt))))))
+    let out = took m.added (standing m) (items c.use_up.new.orders) m.away a.leg a.side a.quantity c.start_of-start.result (held m) c.requires c.start_of-start.ensures.place c.use_up.ensures.list c.use_up.ensures.order in
+    record { ranked = out.kept.ranked; fine = out.kept.fine; numbers = out.kept.numbers; few = m.few; long = m.long; sound = out.kept.sound }
 
 pub returns : goal.returns
 returns c =
     let m = c.args.self.now in
     let a = c.args in
-    let out = took m.added (standing m) (items c.use-up.new.orders) m.away a.leg a.side a.quantity c.start-of-start.result (held m) c.requires c.start-of-start.ensures.place c.use-up.ensures.list c.use-up.ensures.order in
-    record { orders = out.rest; added = refl; quotes = out.shows; room = c.use-up.ensures.room }
+    let out = took m.added (standing m) (items c.use_up.new.orders) m.away a.leg a.side a.quantity c.start_of-start.result (held m) c.requires c.start_of-start.ensures.place c.use_up.ensures.list c.use_up.ensures.order in
+    record { orders = out.rest; added = refl; quotes = out.shows; room = c.use_up.ensures.room }

@@ -2,16 +2,16 @@
 use Rattle.quotes.proofs.Sheets.{keeps-as, put-away-keeps}
 use Rattle.market.proofs.sheet.QuoteSheet.set_away.Goals as goal
 
-pub invariant-of-self : goal.invariant-of-self
-invariant-of-self c =
+pub invariant_of-self : goal.invariant_of-self
+invariant_of-self c =
     let m = c.args.self.now in
     let a = c.args in
-    let kept = keeps-as _ _ _ _ c.put-away.ensures.after (put-away-keeps m.legs a.leg a.side a.price m.long m.sound) in
-    (kept.long, (kept.sound, tt))
+    let kept = keeps-as _ _ _ _ c.put_away.ensures.after (put-away-keeps m.legs a.leg a.side a.price m.long m.sound) in
+    record { long = kept.long; sound = kept.sound }
 
 pub returns : goal.returns
 returns c =
     let m = c.args.self.now in
     let a = c.args in
-    let kept = keeps-as _ _ _ _ c.put-away.ensures.after (put-away-keeps m.legs a.leg a.side a.price m.long m.sound) in
-    record { answer = c.put-away.ensures.answer; quotes = kept.shows }
+    let kept = keeps-as _ _ _ _ c.put_away.ensures.after (put-away-keeps m.legs a.leg a.side a.price m.long m.sound) in
+    record { answer = c.put_away.ensures.answer; quotes = kept.shows }

@@ -3,16 +3,16 @@ use Rattle.quotes.specs.Sheets.{level_at}
 use Rattle.quotes.proofs.Sheets.{keeps-as, put-own-keeps}
 use Rattle.market.proofs.sheet.QuoteSheet.set_own.Goals as goal
 
-pub invariant-of-self : goal.invariant-of-self
-invariant-of-self c =
+pub invariant_of-self : goal.invariant_of-self
+invariant_of-self c =
     let m = c.args.self.now in
     let a = c.args in
-    let kept = keeps-as _ _ _ _ c.put-own.ensures.after (put-own-keeps m.legs a.leg a.side (level_at a.price a.customer a.other) m.long m.sound) in
-    (kept.long, (kept.sound, tt))
+    let kept = keeps-as _ _ _ _ c.put_own.ensures.after (put-own-keeps m.legs a.leg a.side (level_at a.price a.customer a.other) m.long m.sound) in
+    record { long = kept.long; sound = kept.sound }
 
 pub returns : goal.returns
 returns c =
     let m = c.args.self.now in
     let a = c.args in
-    let kept = keeps-as _ _ _ _ c.put-own.ensures.after (put-own-keeps m.legs a.leg a.side (level_at a.price a.customer a.other) m.long m.sound) in
-    record { answer = c.put-own.ensures.answer; quotes = kept.shows }
+    let kept = keeps-as _ _ _ _ c.put_own.ensures.after (put-own-keeps m.legs a.leg a.side (level_at a.price a.customer a.other) m.long m.sound) in
+    record { answer = c.put_own.ensures.answer; quotes = kept.shows }

@@ -7,7 +7,7 @@ pub returns : goal.returns
 returns g c =
     let m = g.M.MarketView in
     record {
-      quotes = λ l s. rw c.no-totals.ensures (tried-new m.depth (m.shown c.args.below) (m.sound c.args.below) l s);
+      quotes = λ l s. rw c.no_totals.ensures (tried-new m.depth (m.shown c.args.below) (m.sound c.args.below) l s);
       below = refl;
-      totals = c.no-totals.ensures;
+      totals = c.no_totals.ensures;
     }

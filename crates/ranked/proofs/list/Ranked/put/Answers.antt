@@ -6,8 +6,8 @@ use Rattle.ranked.proofs.Fronts.{front-within}
 use Rattle.ranked.proofs.Orders.{in-order-set}
 use Rattle.ranked.proofs.list.Ranked.put.Goals as goal
 
-pub offset-bounds-records-place : goal.offset-bounds-records-place
-offset-bounds-records-place g c =
+pub offset_bounds-records-place : goal.offset_bounds-records-place
+offset_bounds-records-place g c =
     let slots = c.args.self.now.slots.now in
     let within : c.args.place < length slots = omega (arith, c.len.ensures, front-within c.args.self.now.len slots) in
     search rules

@@ -13,9 +13,9 @@ returns g c =
     let place = c.args.place in
     let x = c.args.x in
     let same : take c.len-len.result slots ≡ take len slots = ap (λ m. take m slots) c.len-len.ensures ∙ front-again len slots in
-    let is : take (c.len-len.result + 1) c.open-gap.new.records ≡ insert (take len slots) place x = subst (λ (l : List g.row.T.Denot). take (c.len-len.result + 1) c.open-gap.new.records ≡ insert l place x) same c.open-gap.ensures in
+    let is : take (c.len-len.result + 1) c.open_gap.new.records ≡ insert (take len slots) place x = subst (λ (l : List g.row.T.Denot). take (c.len-len.result + 1) c.open_gap.new.records ≡ insert l place x) same c.open_gap.ensures in
     record {
-      room = c.open-gap.auto.records;
+      room = c.open_gap.auto.records;
       list = is;
       order = λ up given. subst (λ (l : List g.row.T.Denot). in_order g.T.Rank.before l ≡ true) (sym is) (in-order-inserted-given g.T.Rank.before laws.chain laws.oneway x (take len slots) place _ up given);
     }

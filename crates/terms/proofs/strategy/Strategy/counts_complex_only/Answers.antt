@@ -16,11 +16,11 @@ not-on-both-sides legs six buy sell =
     (or_from _ _ (and_right (eqb (length legs) 2) _ (and_right (of_one_kind legs) _ both))
     (and_right (leb 3 (length legs)) _ both))
 
-pub returns-then-not-all-on-side-2 : goal.returns-then-not-all-on-side-2
-returns-then-not-all-on-side-2 c = grind (arith, not-on-both-sides)
+pub returns-then-not-all_on_side-2 : goal.returns-then-not-all_on_side-2
+returns-then-not-all_on_side-2 c = grind (arith, not-on-both-sides)
 
-pub returns-then-all-of-kind : goal.returns-then-all-of-kind
-returns-then-all-of-kind c = grind (arith, nat_tests, sound-count)
+pub returns-then-all_of_kind : goal.returns-then-all_of_kind
+returns-then-all_of_kind c = grind (arith, nat_tests, sound-count)
 
-pub returns-else-all-of-kind : goal.returns-else-all-of-kind
-returns-else-all-of-kind c = grind (arith, nat_tests, sound-count)
+pub returns-else-all_of_kind : goal.returns-else-all_of_kind
+returns-else-all_of_kind c = grind (arith, nat_tests, sound-count)

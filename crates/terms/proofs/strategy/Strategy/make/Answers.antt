@@ -15,12 +15,12 @@ returns-in-Some c =
 pub bounds-places-i : goal.bounds-places-i
 bounds-places-i c =
     let legs = c.args.legs.now in
-    omega (arith, sound-count legs (sound-from-none legs c.in-default.ensures))
+    omega (arith, sound-count legs (sound-from-none legs c.in_default.ensures))
 
 pub loop-i-preserved : goal.loop-i-preserved
 loop-i-preserved c =
     let legs = c.args.legs.now in
-    let few = sound-count legs (sound-from-none legs c.in-default.ensures) in
+    let few = sound-count legs (sound-from-none legs c.in_default.ensures) in
     grind (arith, length-set, take_more, take_more_set)
 
 all-copied : (legs places : List Leg) (i : ℕ) → length legs ≤ i →
@@ -29,16 +29,16 @@ all-copied legs places i past inv =
     let whole : length legs ≡ i = omega arith in
     rw whole (inv.1 ∙ take_all i legs past)
 
-pub invariant-of-result : goal.invariant-of-result
-invariant-of-result c =
+pub invariant_of-result : goal.invariant_of-result
+invariant_of-result c =
     let legs = c.args.legs.now in
-    let sound = sound-from-none legs c.in-default.ensures in
+    let sound = sound-from-none legs c.in_default.ensures in
     let same = all-copied legs c.loop-i.places c.loop-i.i c.loop-i-test.false c.loop-i.invariant.1 in
-    (c.loop-i.invariant.0, ((sound-count legs sound).1, (ap sound_legs same ∙ sound, tt)))
+    record { long = c.loop-i.invariant.0; few = (sound-count legs sound).1; sound = ap sound_legs same ∙ sound }
 
 pub returns : goal.returns
 returns c =
     let legs = c.args.legs.now in
     let same = all-copied legs c.loop-i.places c.loop-i.i c.loop-i-test.false c.loop-i.invariant.1 in
-    let answer = ap Ok same ∙ ap (λ o. or_refused o legs) c.in-default.ensures in
+    let answer = ap Ok same ∙ ap (λ o. or_refused o legs) c.in_default.ensures in
     record { answer = answer; words = made-exactly legs (Ok _) answer }
