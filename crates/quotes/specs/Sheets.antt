@@ -12,7 +12,7 @@
 --   own_left        what a take leaves of the only own level
 --   answered        what a call answers: the refusal, or its value
 --   unless_refused  what a call leaves: the old where it is refused, else the new
-use Rattle.std.specs.Prelude.{ℕ, Bool, true, false, cond, ◌&&◌, List, [], ◌∷◌, set, Some, None, Ok, Err, Option, Result, ◌==◌, nat_le, nat_lt, slice_index_or, slice_set}
+use Rattle.std.specs.Prelude.{ℕ, Bool, true, false, cond, ◌&&◌, List, [], ◌∷◌, Some, None, Ok, Err, Option, Result, ◌==◌, nat_le, nat_lt, slice_index_or, slice_set}
 use Rattle.terms.specs.declared.refusal.Refusal.{Refusal}
 use Rattle.terms.specs.declared.refusal.Refusal.TheVariants.{QuoteRange, QuoteCrosses}
 use Rattle.terms.specs.declared.side.Side.{Side}

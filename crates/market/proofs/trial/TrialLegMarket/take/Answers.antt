@@ -11,7 +11,7 @@ add_take-requires g c =
     let left = c.in-Some.ensures in
     let fits = left-fits m.depth (m.shown t.below) (m.sound t.below) a.leg a.side c.total_at-total.result c.in-Some.found left in
     let lt : a.leg < length t.totals = omega (arith, fits, t.long) in
-    record { 0 = lt; room = omega (arith, left.small, c.total_at-total.ensures) }
+    record { leg_in_bounds = lt; room = omega (arith, left.small, c.total_at-total.ensures) }
 
 pub returns : goal.returns
 returns g c =
