@@ -1,5 +1,5 @@
 -- One side of a leg, and one leg, stay sound when contracts come in that fit, and when contracts leave.
-use Rattle.std.proofs.Common.{◌≡◌, ℕ, ◌+◌, ◌-◌, true, false, not, ◌&&◌, ltb, leb, List, length, Option, sym, subst, inl, inr, arith}
+use Rattle.std.proofs.Common.{◌≡◌, ℕ, ◌+◌, true, false, not, ◌&&◌, ltb, leb, List, length, Option, sym, subst, inl, inr, arith}
 use Rattle.std.proofs.lemmas.Bool.{cases_Bool, or_parts, leb-true, leb-false, le-leb, ltb-false}
 use Rattle.terms.specs.declared.side.Side.{Side}
 use Rattle.terms.specs.declared.side.Side.TheVariants.{Buy, Sell}

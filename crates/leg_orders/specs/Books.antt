@@ -9,7 +9,7 @@
 --   is_given               a number from 1 to the last one given
 --   numbers_kept           each number was given, and none stands twice
 --   SoundBook              what the book shows is sound on each leg
-use Rattle.std.specs.Prelude.{◌≡◌, ℕ, Bool, true, false, not, ◌&&◌, ◌||◌, List, [], ◌∷◌, set, None, Option, ◌==◌, nat_le, nat_lt, slice_index_or, slice_set}
+use Rattle.std.specs.Prelude.{◌≡◌, ℕ, Bool, true, false, not, ◌&&◌, ◌||◌, List, [], ◌∷◌, None, Option, ◌==◌, nat_le, nat_lt, slice_index_or, slice_set}
 use Rattle.terms.specs.declared.side.Side.{Side}
 use Rattle.terms.specs.declared.side.Side.TheVariants.{Buy, Sell}
 use Rattle.quotes.specs.Shown.{Shown, sound_leg, sound_level}
