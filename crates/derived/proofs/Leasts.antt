@@ -1,6 +1,6 @@
 -- The least units over the legs are the units of a leg, and no leg has fewer.
 use Rattle.std.proofs.Common.{◌≡◌, ℕ, suc, ◌+◌, ◌<◌, ◌≤◌, min, Bool, true, false, cond, ◌⊎◌, List, [], ◌∷◌, length, get_or, Some, None, Option, sym, refl, subst, inl, inr, ⊎_elim, div-le_self, arith}
-use Rattle.std.specs.List.{AllByRecursion as All}
+use Rattle.std.specs.List.{AllByRecursion}
 use Rattle.std.proofs.lemmas.Bool.{cases_lt}
 use Rattle.terms.specs.declared.leg.Leg.{Leg}
 use Rattle.terms.specs.declared.side.Side.{Side}
@@ -23,7 +23,7 @@ least_start : (most : ℕ) (f : SeenLeg → ℕ) (vs : List SeenLeg) → least_f
 least_start most f [] = omega arith
 least_start most f (v ∷ vs) = omega (arith, least_start (min most (f v)) f vs)
 
-least_under : (most : ℕ) (f : SeenLeg → ℕ) (vs : List SeenLeg) → All (λ v. least_from most f vs ≤ f v) vs
+least_under : (most : ℕ) (f : SeenLeg → ℕ) (vs : List SeenLeg) → AllByRecursion (λ v. least_from most f vs ≤ f v) vs
 least_under most f [] = tt
 least_under most f (v ∷ vs) = (omega (arith, least_start (min most (f v)) f vs), least_under (min most (f v)) f vs)
 
@@ -40,7 +40,7 @@ least-met most f (v ∷ vs) =
     (λ (m : Met f vs (least_from (min most (f v)) f vs)). inr (suc m.0, omega (arith, m.1), m.2))
     (least-met (min most (f v)) f vs)
 
-least-is : (most : ℕ) (f : SeenLeg → ℕ) (vs : List SeenLeg) → 1 ≤ length vs → All (λ v. f v ≤ most) vs → Least f vs (least_from most f vs)
+least-is : (most : ℕ) (f : SeenLeg → ℕ) (vs : List SeenLeg) → 1 ≤ length vs → AllByRecursion (λ v. f v ≤ most) vs → Least f vs (least_from most f vs)
 unfolding Met
 least-is most f [] h a = absurd (omega arith)
 least-is most f (v ∷ vs) h a =
@@ -68,7 +68,7 @@ units-most trader v s =
     let side = facing trader v.leg.side in
     units-held (level_behind v.top side) v.leg.ratio (behind-most v.top side (used_price v.top side) s)
 
-all_most : (trader : Side) (depth : ℕ) (shown : Shown) (k : ℕ) (legs : List Leg) → ((l : ℕ) → sound_leg depth (shown l) ≡ true) → All (λ v. units_of_leg trader v ≤ 10000000) (seen_from shown k legs)
+all_most : (trader : Side) (depth : ℕ) (shown : Shown) (k : ℕ) (legs : List Leg) → ((l : ℕ) → sound_leg depth (shown l) ≡ true) → AllByRecursion (λ v. units_of_leg trader v ≤ 10000000) (seen_from shown k legs)
 all_most trader depth shown k [] h = tt
 all_most trader depth shown k (leg ∷ legs) h =
     (units-most trader (record { leg = leg; top = top_of (shown k) }) (top_sound depth (shown k) (h k)), all_most trader depth shown (k + 1) legs h)

@@ -13,7 +13,7 @@
 --   LeastUnits        that the leg units are the least over the legs, in words
 use Rattle.std.specs.Prelude.{◌≡◌, ℕ, ◌+◌, ◌*◌, ◌/◌, ◌<◌, ◌≤◌, min, Bool, true, false, cond, not, ◌&&◌, List, [], ◌∷◌, length, ℤ, pos, ◌+ℤ◌, ◌-ℤ◌, is_some, Some, None, fold, sum_by, Option, nat_le, slice_index_or}
 use Rattle.std.specs.Option.{unwrap_or}
-use Rattle.std.specs.List.{AllByRecursion as All}
+use Rattle.std.specs.List.{AllByRecursion}
 use Rattle.terms.specs.declared.leg.Leg.{Leg}
 use Rattle.terms.specs.declared.side.Side.{Side}
 use Rattle.terms.specs.declared.side.Side.TheVariants.{Buy, Sell}
@@ -151,7 +151,7 @@ leg_units Sell (Some derived) = derived.seller_units
 
 -- n is the value of one of the legs, and no leg has less
 pub record Least (f : SeenLeg → ℕ) (legs : List SeenLeg) (n : ℕ) : Type 0 where
-  pub under : All (λ v. n ≤ f v) legs
+  pub under : AllByRecursion (λ v. n ≤ f v) legs
   pub met : (k : ℕ) × (k < length legs) × ((d : SeenLeg) → f (slice_index_or legs k d) ≡ n)
 
 abbrev pub LeastUnits : Shown → List Leg → Option Derived → Type 0

@@ -4,7 +4,7 @@
 --   leg_before     the lower leg first, then the better placed
 --   blank_order    no order: what memory is filled with
 --   best_possible  a price better than any that may stand
---   ahead_of        a mark ahead of every order that may stand on one side of one leg
+--   ahead_of       a mark ahead of every order that may stand on one side of one leg
 use Rattle.std.specs.Prelude.{ℕ, Bool, true, false, cond, ◌==◌, nat_lt}
 use Rattle.terms.specs.declared.side.Side.{Side}
 use Rattle.terms.specs.declared.side.Side.TheVariants.{Buy, Sell}

@@ -2,8 +2,8 @@
 --   no_top               a leg without quotes
 --   own_of, away_of        those of one side
 --   with_own, with_away  the top with another own level or away price on one side
---   top_of                the top of a leg's quotes
---   list_of               a list of at most one level
+--   top_of               the top of a leg's quotes
+--   list_of              a list of at most one level
 --   quotes_of            the quotes of a leg that has at most one level on each side
 use Rattle.std.specs.Prelude.{ℕ, List, [], ◌∷◌, Some, None, Option}
 use Rattle.terms.specs.declared.side.Side.{Side}

@@ -1,5 +1,5 @@
 -- What a trial market shows, and what a take on it adds.
---   none_taken     nothing taken on either side of a leg
+--   none_taken    nothing taken on either side of a leg
 --   taken_on      the contracts taken on one side
 --   with_taken    another total on one side
 --   taken_at      the contracts taken on one side of a leg by its number

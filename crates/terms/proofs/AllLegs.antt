@@ -1,6 +1,6 @@
 -- A test of all legs, from what a loop over them finds: each leg passes, or one does not.
 use Rattle.std.proofs.Common.{◌≡◌, ℕ, ◌%◌, ◌<◌, ◌≤◌, Bool, true, false, ◌&&◌, eqb, leb, List, length, get_or, Decides, sym, refl, inl, inr, arith}
-use Rattle.std.specs.List.{AllByRecursion as All}
+use Rattle.std.specs.List.{AllByRecursion}
 use Rattle.std.proofs.ByRecursion.{All-from_get_or, All-get_or, Decides-by_and}
 use Rattle.std.proofs.lemmas.Bool.{cases_Bool, leb-true, le-leb}
 use Rattle.std.proofs.lemmas.Bool.Decides.{Decides-and, Decides-eqb}
@@ -21,7 +21,7 @@ blank = record { kind = Call; side = Buy; ratio = 0 }
 abbrev pub FirstPass : (Leg → Type 0) → List Leg → ℕ → Type 0
 FirstPass P legs i = (k : ℕ) → k < i → P (get_or legs k blank)
 
-module _ (P : Leg → Type 0) (test : Bool) (legs : List Leg) (decides : Decides test (All P legs)) where
+module _ (P : Leg → Type 0) (test : Bool) (legs : List Leg) (decides : Decides test (AllByRecursion P legs)) where
   pub all_pass : (i : ℕ) → length legs ≤ i → FirstPass P legs i → true ≡ test
   all_pass i past pass = sym (decides.1 (All-from_get_or P legs blank (λ k h. pass k (omega arith))))
 
@@ -51,7 +51,7 @@ decides-same-side Buy Sell = (λ h. grind arith, λ h. grind arith)
 decides-same-side Sell Buy = (λ h. grind arith, λ h. grind arith)
 
 pub decides-on-side : (side : Side) (legs : List Leg) →
-    Decides (all_on_side side legs) (All (λ leg. leg.side ≡ side) legs)
+    Decides (all_on_side side legs) (AllByRecursion (λ leg. leg.side ≡ side) legs)
 decides-on-side side =
     Decides-by_and (λ leg. same_side leg.side side) (λ leg. leg.side ≡ side)
     (all_on_side side) (λ leg. decides-same-side leg.side side) refl (λ _ _. refl)
@@ -63,7 +63,7 @@ decides-same-kind Call Put = (λ h. grind arith, λ h. grind arith)
 decides-same-kind Put Call = (λ h. grind arith, λ h. grind arith)
 
 pub decides-of-kind : (kind : OptionKind) (legs : List Leg) →
-    Decides (all_of_kind kind legs) (All (λ leg. leg.kind ≡ kind) legs)
+    Decides (all_of_kind kind legs) (AllByRecursion (λ leg. leg.kind ≡ kind) legs)
 decides-of-kind kind =
     Decides-by_and (λ leg. same_kind leg.kind kind) (λ leg. leg.kind ≡ kind)
     (all_of_kind kind) (λ leg. decides-same-kind leg.kind kind) refl (λ _ _. refl)

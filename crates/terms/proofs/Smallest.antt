@@ -1,6 +1,6 @@
 -- The smallest ratio: it is the ratio of a leg, and no ratio is below it.
 use Rattle.std.proofs.Common.{◌≡◌, ℕ, suc, ◌<◌, ◌≤◌, true, List, [], ◌∷◌, length, get_or, inl, inr, arith}
-use Rattle.std.specs.List.{AllByRecursion as All}
+use Rattle.std.specs.List.{AllByRecursion}
 use Rattle.std.proofs.lemmas.Bool.{cases_lt}
 use Rattle.terms.specs.declared.leg.Leg.{Leg}
 use Rattle.terms.specs.Strategies.{RatiosInRange, SmallestOf, smallest_ratio, sound_legs}
@@ -10,7 +10,7 @@ pub smallest-under-100 : (legs : List Leg) → smallest_ratio legs ≤ 100
 smallest-under-100 [] = omega arith
 smallest-under-100 (leg ∷ legs) = omega (arith, smallest-under-100 legs)
 
-under_all : (r : ℕ) (legs : List Leg) → r ≤ smallest_ratio legs → All (λ leg. r ≤ leg.ratio) legs
+under_all : (r : ℕ) (legs : List Leg) → r ≤ smallest_ratio legs → AllByRecursion (λ leg. r ≤ leg.ratio) legs
 under_all r [] h = tt
 under_all r (leg ∷ legs) h = (omega arith, under_all r legs (omega arith))
 

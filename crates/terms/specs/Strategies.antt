@@ -1,15 +1,15 @@
 -- What a strategy is.
---   LegCountFits        two to six legs
---   RatiosInRange       every ratio is 1 to 100
---   CommonFactor        a number above 1 divides all ratios
---   SoundLegs           legs of which a strategy can be made
---   legs_refusal        the first row of the refusals that fits these legs
---   strategy_answer     what making a strategy of these legs answers
---   smallest_ratio      the smallest ratio
---   every_eco_complex_only whether every order in these legs counts as Complex Only
+--   LegCountFits            two to six legs
+--   RatiosInRange           every ratio is 1 to 100
+--   CommonFactor            a number above 1 divides all ratios
+--   SoundLegs               legs of which a strategy can be made
+--   legs_refusal            the first row of the refusals that fits these legs
+--   strategy_answer         what making a strategy of these legs answers
+--   smallest_ratio          the smallest ratio
+--   every_eco_complex_only  whether every order in these legs counts as Complex Only
 -- A word in small letters is the same as a test that can be computed; MadeExactlyOf says that they agree.
 use Rattle.std.specs.Prelude.{◌≡◌, ℕ, zero, suc, ◌%◌, ◌<◌, ◌≤◌, min, Bool, true, false, cond, not, ◌&&◌, ◌||◌, List, [], ◌∷◌, length, Some, None, Ok, Err, Option, Result, ◌==◌, nat_le, slice_index_or}
-use Rattle.std.specs.List.{AllByRecursion as All}
+use Rattle.std.specs.List.{AllByRecursion}
 use Rattle.terms.specs.declared.leg.Leg.{Leg}
 use Rattle.terms.specs.declared.leg.OptionKind.{OptionKind}
 use Rattle.terms.specs.declared.leg.OptionKind.TheVariants.{Call, Put}
@@ -25,10 +25,10 @@ abbrev pub LegCountFits : List Leg → Type 0
 LegCountFits legs = (2 ≤ length legs) × (length legs ≤ 6)
 
 abbrev pub RatiosInRange : List Leg → Type 0
-RatiosInRange legs = All (λ leg. (1 ≤ leg.ratio) × (leg.ratio ≤ 100)) legs
+RatiosInRange legs = AllByRecursion (λ leg. (1 ≤ leg.ratio) × (leg.ratio ≤ 100)) legs
 
 abbrev pub DividesAll : ℕ → List Leg → Type 0
-DividesAll d legs = All (λ leg. leg.ratio % d ≡ 0) legs
+DividesAll d legs = AllByRecursion (λ leg. leg.ratio % d ≡ 0) legs
 
 abbrev pub CommonFactor : List Leg → Type 0
 CommonFactor legs = (d : ℕ) × (2 ≤ d) × DividesAll d legs
@@ -88,7 +88,7 @@ smallest_ratio (leg ∷ legs) = min leg.ratio (smallest_ratio legs)
 
 -- r is the ratio of a leg, and no ratio is below it
 pub record SmallestOf (legs : List Leg) (r : ℕ) : Type 0 where
-  pub under : All (λ leg. r ≤ leg.ratio) legs
+  pub under : AllByRecursion (λ leg. r ≤ leg.ratio) legs
   pub met : (k : ℕ) × (k < length legs) × ((d : Leg) → (slice_index_or legs k d).ratio ≡ r)
 
 abbrev pub same_kind : OptionKind → OptionKind → Bool
