@@ -1,6 +1,6 @@
 -- The top of a leg: its best own level and its away price on each side.
 --   no_top               a leg without quotes
---   own_of, away_of        those of one side
+--   own_of, away_of      those of one side
 --   with_own, with_away  the top with another own level or away price on one side
 --   top_of               the top of a leg's quotes
 --   list_of              a list of at most one level
