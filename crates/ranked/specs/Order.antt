@@ -4,7 +4,6 @@
 --   place_for     the place of x: behind all up to the first record that it precedes
 --   in_rank       the list with x at its place
 --   place_given   the place of x in a list with this much room, none if it is full
---   is_none        nothing was answered
 --   inserted_at   the list with x at the place given, or as it was
 --   may_set       whether y may stand in the place of this record: neither precedes the other
 --   FoundAt       the first record with this number stands at this place
@@ -37,10 +36,6 @@ module _ {X : Type 0} (before : X → X → Bool) where
   may_set (Some x) y = not (before x y) && not (before y x)
 
 module _ {X : Type 0} where
-  abbrev pub is_none : Option X → Bool
-  is_none None = true
-  is_none (Some x) = false
-
   abbrev pub inserted_at : List X → Option ℕ → X → List X
   inserted_at xs None x = xs
   inserted_at xs (Some place) x = insert xs place x

@@ -1,8 +1,8 @@
 //! The ranked list.
-ghost use Rattle.std.specs.Prelude.{◌≡◌, ℕ, ◌<◌, ◌≤◌, true, [], length, if◌then◌else◌, Some, nat_le, slice_set};
+ghost use Rattle.std.specs.Prelude.{◌≡◌, ℕ, ◌<◌, ◌≤◌, true, [], length, if◌then◌else◌, Some, nat_le, slice_set, is_none};
 ghost use Rattle.std.specs.List.{slice_get, insert, remove};
 ghost use Rattle.ranked.specs.Items.{items, room};
-ghost use Rattle.ranked.specs.Order.{in_order, place_for, place_given, is_none, inserted_at, may_set, Found};
+ghost use Rattle.ranked.specs.Order.{in_order, place_for, place_given, inserted_at, may_set, Found};
 
 use super::moves::{close_gap, find_number, front, open_gap, read, search_place};
 use super::rank::Rank;
