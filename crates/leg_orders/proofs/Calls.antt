@@ -30,7 +30,7 @@ use Rattle.leg_orders.proofs.Aways.{AwayKept, away-kept}
 pub record Added (orders new : List LegOrder) (away : List AwayPrices) (order : LegOrder) : Type 0 where
   pub kept : Kept order.number new away
   pub few : leb order.number 1000000 ≡ true
-  pub in_rank : new ≡ in_rank leg_before order orders
+  pub ranked : new ≡ in_rank leg_before order orders
   pub shows : (l : ℕ) (s : Side) → book_shown new away l s ≡ entered (book_shown orders away) order l s
 
 pub added : (last room : ℕ) (orders new : List LegOrder) (away : List AwayPrices) (order : LegOrder) (place : Option ℕ) → order.number ≡ last + 1 → Kept last orders away →
@@ -50,7 +50,7 @@ added last room orders new away order place next kept fits at list up =
           subst (λ (number : ℕ). Kept number new away) (sym next)
           (subst (λ (xs : List LegOrder). Kept (last + 1) xs away) (sym is) (add_kept last away full order orders first next (sym fits) ranked kept));
       few = le-leb order.number 1000000 (omega (arith, leb-false 1000000 last free.1, next));
-      in_rank = is ∙ inserted-in-rank leg_before order orders;
+      ranked = is ∙ inserted-in-rank leg_before order orders;
       shows = λ l s. ap (λ (xs : List LegOrder). book_shown xs away l s) is ∙ add-shows away order orders first ranked l s;
     }
 

@@ -1,5 +1,5 @@
 -- The levels that leg orders make.
---   is_of         the order stands on this side of this leg
+--   is_of        the order stands on this side of this leg
 --   level_from   the level that an order makes alone
 --   plus         two levels of one price in one
 --   join         a level with the levels behind it: it is one with the first of them if they have the same price

@@ -3,7 +3,7 @@ ghost use Rattle.std.specs.Prelude.{◌≡◌};
 ghost use Rattle.leg_orders.specs.Ranks.{leg_before, sooner, ahead_of, blank_order};
 ghost use Rattle.leg_orders.specs.Levels.{is_of, level_from};
 ghost use Rattle.leg_orders.specs.Uses.{fewer};
-ghost use Rattle.leg_orders.specs.RanksLemmas as Ranks;
+ghost use Rattle.leg_orders.specs.RanksLemmas;
 
 use quotes::level::{Level, MAX_PRICE};
 use ranked::rank::Rank;
@@ -111,9 +111,9 @@ impl Rank for LegOrder {
 
     ghost numbered = { λ order. order.number };
 
-    ghost oneway = { Ranks.oneway };
+    ghost oneway = { RanksLemmas.oneway };
 
-    ghost chain = { Ranks.chain };
+    ghost chain = { RanksLemmas.chain };
 
     fn precedes(&self, other: &LegOrder) -> bool {
         if self.leg != other.leg {

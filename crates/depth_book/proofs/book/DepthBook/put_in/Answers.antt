@@ -16,4 +16,4 @@ pub returns : goal.returns
 returns c =
     let m = c.args.self.now in
     let out = added m.added (room m.orders) (standing m) (items c.insert.new.self) m.away c.args.order c.insert.result c.requires.next (held m) c.requires.fits c.insert.ensures.place c.insert.ensures.list c.insert.ensures.order in
-    record { orders = out.in_rank; added = refl; quotes = out.shows; room = c.insert.ensures.room }
+    record { orders = out.ranked; added = refl; quotes = out.shows; room = c.insert.ensures.room }
