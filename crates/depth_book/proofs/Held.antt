@@ -4,4 +4,4 @@ use Rattle.depth_book.specs.declared.book.DepthBook.{DepthBook}
 use Rattle.depth_book.specs.Books.{standing}
 
 pub held : (book : DepthBook) → Kept book.added (standing book) book.away
-held book = record { ranked = book.ranked; fine = book.fine; numbers = book.numbers; sound = book.sound }
+held book = record { ranked = book.orders.ranked; fine = book.fine; numbers = book.numbers; sound = book.sound }

@@ -11,8 +11,8 @@
 use Rattle.std.specs.Prelude.{◌≡◌, ℕ, ◌+◌, Bool, true, false, List, length, Some, None, Option, Result}
 use Rattle.terms.specs.declared.refusal.Refusal.{Refusal}
 use Rattle.terms.specs.declared.side.Side.{Side}
+use Rattle.terms.specs.Refusals.{answered, unless_refused}
 use Rattle.quotes.specs.Shown.{Shown}
-use Rattle.quotes.specs.Sheets.{answered, unless_refused}
 use Rattle.ranked.specs.Items.{items, room}
 use Rattle.ranked.specs.Order.{in_rank, FoundAt}
 use Rattle.leg_orders.specs.declared.order.LegOrder.{LegOrder}

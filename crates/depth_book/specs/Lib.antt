@@ -1,3 +1,3 @@
-pub mod Runs
+pub mod Levels
 pub mod Memories
 pub mod Books

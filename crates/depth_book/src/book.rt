@@ -1,13 +1,12 @@
 //! The depth book.
-ghost use Rattle.std.specs.Prelude.{◌≡◌, true, length, nat_le};
-ghost use Rattle.ranked.specs.Items.{items};
-ghost use Rattle.ranked.specs.Order.{in_order};
-ghost use Rattle.leg_orders.specs.Ranks.{leg_before};
+ghost use Rattle.std.specs.Prelude.{◌≡◌, ◌≤◌, true, length, nat_le};
+ghost use Rattle.ranked.specs.Items.{items, room};
 ghost use Rattle.leg_orders.specs.Books.{SoundBook, fine_orders, numbers_kept};
 
-use leg_orders::away_prices::AwayPrices;
 use leg_orders::order::LegOrder;
+use quotes::top::AwayPrices;
 use ranked::list::Ranked;
+use terms::strategy::MAX_LEGS;
 
 pub mod calls;
 mod moves;
@@ -17,12 +16,14 @@ pub mod takes;
 #[derive(Drop)]
 pub struct DepthBook<'a> {
     orders: Ranked<'a, LegOrder>,
-    away: [AwayPrices; 6],
+    away: [AwayPrices; MAX_LEGS],
     added: u32,
-    ghost ranked: { in_order leg_before (items orders) ≡ true },
+    ghost some: { 1 ≤ room orders },
+    ghost most: { room orders ≤ 512 },
     ghost fine: { fine_orders (items orders) ≡ true },
     ghost numbers: { numbers_kept added (items orders) ≡ true },
     ghost few: { nat_le added 1000000 ≡ true },
+    // Said once more than by the array, for the law that a leg past the sixth shows nothing is stated of the plain list.
     ghost long: { length away ≡ 6 },
     ghost sound: { SoundBook (items orders) away },
 }

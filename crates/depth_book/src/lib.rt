@@ -3,7 +3,6 @@
 
 mod away_table;
 pub mod book;
-pub mod memory;
-mod run;
 mod scan;
+mod side_levels;
 mod uses;

@@ -1,108 +1,78 @@
-//! Reading levels off ranked orders, from the place where a side begins.
-ghost use Rattle.std.specs.Prelude.{◌≡◌, ◌≤◌, drop};
-ghost use Rattle.std.specs.List.{slice_get};
+//! Reading the levels of one side off its ranked orders.
+ghost use Rattle.std.specs.Prelude.{◌≡◌, ◌≤◌, ◌&&◌, ◌==◌};
+ghost use Rattle.std.specs.Iterator.{YieldsFirst, item_count};
 ghost use Rattle.quotes.specs.Shown.{contracts};
-ghost use Rattle.leg_orders.specs.Levels.{own, plus};
+ghost use Rattle.leg_orders.specs.Levels.{is_of, level_from, plus};
 ghost use Rattle.leg_orders.specs.Adds.{crowded};
-ghost use Rattle.leg_orders.specs.Scans.{Scannable};
-ghost use Rattle.depth_book.specs.Runs.{RunAt};
+ghost use Rattle.depth_book.specs.Levels.{levels_left};
 
-use super::run::Run;
+use super::side_levels::SideLevels;
 use leg_orders::order::LegOrder;
 use quotes::level::{Level, MAX_CONTRACTS};
-use terms::side::Side;
 
 // The most prices on one side of a leg.
 pub(crate) const MAX_PRICES: usize = 16;
 
-fn sum(a: Level, b: Level) -> Level
-    requires { contracts (plus a b) ≤ 10000000 }
-    ensures { result ≡ plus a b }
+// The level with one order more at its price.
+fn with_order(level: Level, order: &LegOrder) -> Level
+    requires { contracts (plus level (level_from order.now)) ≤ 10000000 }
+    ensures { result ≡ plus level (level_from order.now) }
 {
+    let more = order.level();
     Level {
-        price: a.price,
-        customer: a.customer + b.customer,
-        other: a.other + b.other,
+        price: level.price,
+        customer: level.customer + more.customer,
+        other: level.other + more.other,
     }
 }
 
-// The level that begins at `place`, if an order of this side stands there.
-pub(crate) fn run_at(orders: &[LegOrder], leg: usize, side: Side, place: usize) -> Option<Run>
-    requires { Scannable leg side orders.now place }
-    ensures { RunAt leg side orders.now place result }
-{
-    if place >= orders.len() {
-        return None;
+impl SideLevels<'_> {
+    // Whether the order stands on this side of the leg at this price.
+    fn is_at(&self, order: &LegOrder, price: u32) -> bool
+        ensures { result ≡ (is_of self.now.at.leg self.now.at.side order.now && order.now.price == price) }
+    {
+        order.is_of(self.at) && order.price == price
     }
-    let first = orders[place];
-    if !first.is_of(leg, side) {
-        return None;
-    }
-    let mut level = first.level();
-    let mut next = place + 1;
-    while next < orders.len() {
-        let order = orders[next];
-        if !order.is_of(leg, side) {
-            return Some(Run { level, next });
-        }
-        if order.price != level.price {
-            return Some(Run { level, next });
-        }
-        level = sum(level, order.level());
-        next += 1;
-    }
-    Some(Run { level, next })
 }
 
-// The level at a place counted from the best, where `start` is where the side begins.
-pub(crate) fn level_at(
-    orders: &[LegOrder],
-    leg: usize,
-    side: Side,
-    start: usize,
-    place: usize,
-) -> Option<Level>
-    requires { Scannable leg side orders.now start }
-    ensures { result ≡ slice_get (own leg side (drop start orders.now)) place }
-{
-    let mut at = start;
-    let mut left = place;
-    while at < orders.len() {
-        let Some(run) = run_at(orders, leg, side, at) else {
+impl Iterator for SideLevels<'_> {
+    type Item = Level;
+
+    ghost next_gives = { YieldsFirst levels_left };
+
+    ghost remaining = { item_count levels_left };
+
+    // The orders at one price are neighbours: the level is the sum of those in front at the first one's price.
+    fn next(&mut self) -> Option<Level> {
+        let (first, mut rest) = self.rest.split_first()?;
+        if !first.is_of(self.at) {
             return None;
-        };
-        if left == 0 {
-            return Some(run.level);
         }
-        left -= 1;
-        at = run.next;
+        let mut level = first.level();
+        while let Some((order, behind)) = rest.split_first() {
+            if !self.is_at(order, level.price) {
+                break;
+            }
+            level = with_order(level, order);
+            rest = behind;
+        }
+        self.rest = rest;
+        Some(level)
     }
-    None
 }
 
 // Whether `quantity` contracts more at `price` would make a 17th price or too large a level.
-pub(crate) fn is_crowded(
-    orders: &[LegOrder],
-    leg: usize,
-    side: Side,
-    start: usize,
-    price: u32,
-    quantity: u32,
-) -> bool
-    requires { (Scannable leg side orders.now start) × (quantity ≤ 10000000) }
-    ensures { result ≡ crowded price quantity (own leg side (drop start orders.now)) }
+pub(crate) fn is_crowded(levels: SideLevels<'_>, price: u32, quantity: u32) -> bool
+    requires { quantity ≤ 10000000 }
+    ensures { result ≡ crowded price quantity (levels_left levels.entry) }
 {
-    let mut at = start;
+    // One reading both looks for the price and counts the others.
     let mut prices: usize = 0;
-    while at < orders.len() {
-        let Some(run) = run_at(orders, leg, side, at) else {
-            return prices >= MAX_PRICES;
-        };
-        if run.level.price == price {
-            return run.level.customer + run.level.other + quantity > MAX_CONTRACTS;
+    for level in levels {
+        if level.price == price {
+            return level.customer + level.other + quantity > MAX_CONTRACTS;
         }
         prices += 1;
-        at = run.next;
     }
     prices >= MAX_PRICES
 }

@@ -1,15 +1,21 @@
--- The search through the bands, and the rule of the whole table.
-use Rattle.std.proofs.Common.{◌≡◌, ℕ, ◌+◌, ◌<◌, ◌≤◌, List, length, get_or, drop, arith}
-use Rattle.std.proofs.lemmas.List.{drop_more}
+-- The first band that reaches a price, and the rule of the whole table.
+use Rattle.std.proofs.Common.{◌≡◌, ℕ, ◌≤◌, Bool, true, false, cond, List, [], ◌∷◌, Some, Option, refl, arith}
+use Rattle.std.specs.Option.{unwrap_or, option_map}
+use Rattle.std.specs.Prelude.{nat_le}
 use Rattle.std.proofs.lemmas.Bool.Decides.{nat_tests}
 use Rattle.derived.specs.declared.collar.Band.{Band}
-use Rattle.derived.specs.Collars.{collar_in, collar, CollarRule}
+use Rattle.derived.specs.Collars.{collar_in, first_amount, collar, CollarRule}
 
-pub band-here : (bands : List Band) (i : ℕ) (d : Band) (price : ℕ) → i < length bands → price ≤ (get_or bands i d).limit → collar_in (drop i bands) price ≡ (get_or bands i d).amount
-band-here bands i d price h k = rw (drop_more bands i d h) (grind (arith, nat_tests))
+abbrev amount_of : Option Band → ℕ
+amount_of band = unwrap_or (option_map (λ (b : Band). b.amount) band) 190
 
-pub band-later : (bands : List Band) (i : ℕ) (d : Band) (price : ℕ) → i < length bands → (get_or bands i d).limit < price → collar_in (drop i bands) price ≡ collar_in (drop (i + 1) bands) price
-band-later bands i d price h k = rw (drop_more bands i d h) (grind (arith, nat_tests))
+first-or : (here : Bool) (band : Band) (later : Option Band) (n : ℕ) → amount_of later ≡ n → amount_of (cond here (Some band) later) ≡ cond here band.amount n
+first-or true band later n e = refl
+first-or false band later n e = e
+
+pub first-band : (bands : List Band) (price : ℕ) → first_amount bands price ≡ collar_in bands price
+first-band [] price = refl
+first-band (band ∷ bands) price = first-or (nat_le price band.limit) band _ _ (first-band bands price)
 
 table-rule : (price : ℕ) → CollarRule price (collar price)
 unfolding collar

@@ -10,9 +10,8 @@ use Rattle.quotes.specs.declared.top.LegTop.{LegTop}
 use Rattle.quotes.specs.Shown.{Shown, contracts, sound_leg}
 use Rattle.quotes.specs.Tops.{own_of, top_of}
 use Rattle.derived.specs.declared.prices.Derived.{Derived}
-use Rattle.derived.specs.Used.{SoundTop, used_price, behind_price, level_behind}
+use Rattle.derived.specs.Used.{SoundTop, held, used_price, behind_price, level_behind}
 use Rattle.derived.specs.Derived.{SeenLeg, seen_from, seen, least_from, units_in, units_of_leg, units_behind, facing, priced, derived_of, Least, LeastUnits}
-use Rattle.derived.specs.Tallies.{held}
 use Rattle.derived.proofs.Bounds.{top_sound, held-most}
 use Rattle.derived.proofs.Legs.{seen-long}
 

@@ -1,21 +1,39 @@
 -- The derived prices as they grow leg by leg. No public contract cites these; Derived.antt has the rule.
---   Backing     the sums, customers and units behind one net price, over the legs so far
---   Tally       both backings, and whether no leg so far is crossed
-use Rattle.std.specs.Prelude.{ℕ, ◌+◌, ◌*◌, ◌≤◌, min, true, cond, not, ◌&&◌, List, ℤ, pos, ◌+ℤ◌, ◌-ℤ◌, Some, None, Option}
+--   GoodLeg         the leg's ratio is one that a strategy may have
+--   leg_priced      the leg at a place as the market shows it, where it has both used prices
+--   PricedAt        the leg may stand in a strategy, and these are its used prices
+--   backing         the sums, customers and units behind one net price, over the legs so far
+--   Tallied, tally  how many legs so far, both backings over them, and whether none of them is crossed
+--   net_of          bought less sold
+--   top_over, bottom_under, collar_for    the collar of a buyer and of a seller, and of either
+--   derived_from    the derived prices after the last leg
+--   SmallBacking, SmallTally    no sum is large after so many legs
+use Rattle.std.specs.Prelude.{◌≡◌, ℕ, ◌*◌, ◌≤◌, Bool, cond, List, length, ℤ, pos, ◌+ℤ◌, ◌-ℤ◌, Some, None, Option}
 use Rattle.terms.specs.declared.leg.Leg.{Leg}
 use Rattle.terms.specs.declared.side.Side.{Side}
 use Rattle.terms.specs.declared.side.Side.TheVariants.{Buy, Sell}
-use Rattle.terms.specs.Sides.{same_side}
-use Rattle.quotes.specs.declared.level.Level.{Level}
 use Rattle.quotes.specs.declared.top.LegTop.{LegTop}
-use Rattle.quotes.specs.Shown.{contracts}
-use Rattle.quotes.specs.Tops.{own_of}
+use Rattle.quotes.specs.Shown.{Shown}
 use Rattle.derived.specs.declared.prices.Derived.{Derived}
 use Rattle.derived.specs.declared.tally.Backing.{Backing}
-use Rattle.derived.specs.declared.tally.Tally.{Tally}
-use Rattle.derived.specs.declared.tally.UsedPair.{UsedPair}
-use Rattle.derived.specs.Used.{used_price, own_behind, crossed}
-use Rattle.derived.specs.Derived.{SeenLeg, facing, sum_over, customers_behind, units_behind, none_crossed, has_customers, units_in}
+use Rattle.derived.specs.Used.{used_price}
+use Rattle.derived.specs.Derived.{SeenLeg, seen_at, both_used, sum_over, customers_behind, units_behind, none_crossed}
+
+-- ---- one leg
+
+abbrev pub GoodLeg : Leg → Type 0
+GoodLeg leg = (1 ≤ leg.ratio) × (leg.ratio ≤ 100)
+
+abbrev pub leg_priced : Shown → ℕ → Leg → Option SeenLeg
+leg_priced shown place leg = cond (both_used (seen_at shown place leg)) (Some (seen_at shown place leg)) None
+
+pub record PricedAt (leg : Leg) (top : LegTop) (used_bid used_offer : ℕ) : Type 0 where
+  pub low : 1 ≤ leg.ratio
+  pub high : leg.ratio ≤ 100
+  pub bid : used_price top Buy ≡ Some used_bid
+  pub offer : used_price top Sell ≡ Some used_offer
+
+-- ---- the legs so far
 
 abbrev pub backing : Side → List SeenLeg → Backing
 backing trader legs =
@@ -26,57 +44,14 @@ backing trader legs =
       units = units_behind trader legs;
     }
 
-abbrev pub tally : List SeenLeg → Tally
-tally legs = record { buyer = backing Buy legs; seller = backing Sell legs; apart = none_crossed legs }
+pub record Tallied : Type 0 where
+  pub legs : ℕ
+  pub buyer : Backing
+  pub seller : Backing
+  pub apart : Bool
 
-abbrev pub no_backing : Backing
-no_backing = record { bought = 0; sold = 0; customers = true; units = 10000000 }
-
-abbrev pub no_tally : Tally
-no_tally = record { buyer = no_backing; seller = no_backing; apart = true }
-
--- ---- one leg more
-
-abbrev pub pair_of : Option ℕ → Option ℕ → Option UsedPair
-pair_of None offer = None
-pair_of (Some bid) None = None
-pair_of (Some bid) (Some offer) = Some (record { bid = bid; offer = offer })
-
-abbrev pub used_pair : LegTop → Option UsedPair
-used_pair top = pair_of (used_price top Buy) (used_price top Sell)
-
-abbrev pub price_on : Side → UsedPair → ℕ
-price_on Buy used = used.bid
-price_on Sell used = used.offer
-
-abbrev pub held : Option Level → ℕ
-held None = 0
-held (Some level) = contracts level
-
-abbrev pub value_on : Side → Leg → ℕ → ℕ
-value_on side leg price = cond (same_side leg.side side) (leg.ratio * price) 0
-
-abbrev pub with_leg : Backing → Leg → ℕ → Option Level → Backing
-with_leg b leg price level =
-    record {
-      bought = b.bought + value_on Buy leg price;
-      sold = b.sold + value_on Sell leg price;
-      customers = b.customers && has_customers level;
-      units = min b.units (units_in level leg.ratio);
-    }
-
-abbrev pub for_trader : Side → Backing → Leg → LegTop → UsedPair → Backing
-for_trader trader b leg top used =
-    with_leg b leg (price_on (facing trader leg.side) used)
-    (own_behind (own_of top (facing trader leg.side)) (price_on (facing trader leg.side) used))
-
-abbrev pub with_next : Tally → Leg → LegTop → UsedPair → Tally
-with_next t leg top used =
-    record {
-      buyer = for_trader Buy t.buyer leg top used;
-      seller = for_trader Sell t.seller leg top used;
-      apart = t.apart && not (crossed top);
-    }
+abbrev pub tally : List SeenLeg → Tallied
+tally legs = record { legs = length legs; buyer = backing Buy legs; seller = backing Sell legs; apart = none_crossed legs }
 
 -- ---- after the last leg
 
@@ -89,7 +64,11 @@ top_over b s = cond b.customers (net_of b -ℤ pos s) (net_of b)
 abbrev pub bottom_under : Backing → ℕ → ℤ
 bottom_under b s = cond b.customers (net_of b +ℤ pos s) (net_of b)
 
-abbrev pub derived_from : Tally → ℕ → Derived
+abbrev pub collar_for : Side → Backing → ℕ → ℤ
+collar_for Buy b s = top_over b s
+collar_for Sell b s = bottom_under b s
+
+abbrev pub derived_from : Tallied → ℕ → Derived
 derived_from t s =
     record {
       dbb = net_of t.seller;
@@ -102,16 +81,11 @@ derived_from t s =
 
 -- ---- no sum is large after n legs: a ratio is at most 100, a used price at most 1,000,190
 
-abbrev pub GoodLeg : Leg → Type 0
-GoodLeg leg = (1 ≤ leg.ratio) × (leg.ratio ≤ 100)
-
-abbrev pub GoodPair : UsedPair → Type 0
-GoodPair used = (used.bid ≤ 1000190) × (used.offer ≤ 1000190)
-
 pub record SmallBacking (b : Backing) (n : ℕ) : Type 0 where
   pub bought : b.bought ≤ 100019000 * n
   pub sold : b.sold ≤ 100019000 * n
 
-pub record SmallTally (t : Tally) (n : ℕ) : Type 0 where
-  pub buyer : SmallBacking t.buyer n
-  pub seller : SmallBacking t.seller n
+pub record SmallTally (legs : ℕ) (b s : Backing) : Type 0 where
+  pub few : legs ≤ 6
+  pub buyer : SmallBacking b legs
+  pub seller : SmallBacking s legs

@@ -15,7 +15,7 @@ use Rattle.terms.specs.declared.side.Side.TheVariants.{Buy, Sell}
 use Rattle.terms.specs.Sides.{opposite}
 use Rattle.quotes.specs.declared.level.Level.{Level}
 use Rattle.quotes.specs.declared.top.LegTop.{LegTop}
-use Rattle.quotes.specs.Shown.{sound_leg}
+use Rattle.quotes.specs.Shown.{contracts, sound_leg}
 use Rattle.quotes.specs.Tops.{own_of, away_of, quotes_of}
 use Rattle.derived.specs.Collars.{deviation, collar}
 
@@ -63,6 +63,11 @@ level_behind top side = behind_price (own_of top side) (used_price top side)
 abbrev pub used_is_own : LegTop → Side → Bool
 used_is_own top side = is_some (level_behind top side)
 
+-- the contracts of the level, if there is one
+abbrev pub held : Option Level → ℕ
+held None = 0
+held (Some level) = contracts level
+
 -- ---- crossed legs
 
 abbrev pub best_price : Side → Option Level → Option ℕ → Option ℕ
@@ -76,7 +81,7 @@ reaches (Some bid) None = false
 reaches (Some bid) (Some offer) = nat_le offer bid
 
 abbrev pub crossed : LegTop → Bool
-crossed top = reaches (best_price Buy top.bid top.away_bid) (best_price Sell top.offer top.away_offer)
+crossed top = reaches (best_price Buy top.own.bid top.away.bid) (best_price Sell top.own.offer top.away.offer)
 
 -- ---- what a market keeps to
 

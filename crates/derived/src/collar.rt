@@ -1,6 +1,6 @@
 //! Deviations and collar values.
 ghost use Rattle.std.specs.Prelude.{◌≡◌};
-ghost use Rattle.derived.specs.Collars.{deviation, bands, collar_in, collar, CollarRule};
+ghost use Rattle.derived.specs.Collars.{deviation, bands, first_amount, collar, CollarRule};
 
 // A band of prices, up to its limit, and the collar value there.
 #[derive(Clone, Copy)]
@@ -48,18 +48,17 @@ pub fn deviation(away: u32) -> u32
 }
 
 fn amount_in(bands: &[Band], price: u32) -> u32
-    ensures { result ≡ collar_in bands.now price }
+    ensures { result ≡ first_amount bands.now price }
 {
-    for band in bands {
-        if price <= band.limit {
-            return band.amount;
-        }
-    }
-    190 // the last band reaches every price, so no search comes here
+    // the last band reaches every price, so no price comes to this 190
+    bands
+        .iter()
+        .find(|band| price <= band.limit)
+        .map_or(190, |band| band.amount)
 }
 
 fn amount_in_table(price: u32) -> u32
-    ensures { result ≡ collar_in bands price }
+    ensures { result ≡ first_amount bands price }
 {
     amount_in(&BANDS, price)
 }

@@ -2,6 +2,7 @@
 #![tactic(auto)]
 
 pub mod collar;
+mod priced_leg;
 pub mod prices;
 mod tally;
 pub mod used;

@@ -1,208 +1,143 @@
 //! The sums and least values behind the derived prices, leg by leg.
-ghost use Rattle.std.specs.Prelude.{◌≡◌, ◌≤◌};
-ghost use Rattle.derived.specs.Used.{SoundTop};
-ghost use Rattle.derived.specs.Derived.{facing, has_customers, units_in};
-ghost use Rattle.derived.specs.Tallies.{used_pair, price_on, held, with_leg, for_trader, with_next, GoodLeg, GoodPair, SmallBacking, SmallTally, no_tally, net_of, top_over, bottom_under, derived_from};
+ghost use Rattle.std.specs.Prelude.{◌≡◌, ℕ, ◌+◌, ◌<◌, ◌≤◌, List, [], ◌∷◌, ◌++◌};
+ghost use Rattle.derived.specs.Derived.{SeenLeg};
 
+use super::priced_leg::PricedLeg;
 use super::prices::Derived;
-use super::used::{crossed, own_behind, used_in};
-use quotes::level::Level;
-use quotes::top::LegTop;
-use terms::leg::Leg;
+use quotes::level::MAX_CONTRACTS;
+use std::marker::Model;
 use terms::side::Side;
-
-// The used prices of a leg.
-#[derive(Clone, Copy)]
-pub(crate) struct UsedPair {
-    pub bid: u32,
-    pub offer: u32,
-}
 
 // What stands behind one derived price: the sums over bought and over sold legs, whether every
 // level behind it has customers, and the least units that the levels hold.
 #[derive(Clone, Copy)]
 pub(crate) struct Backing {
-    pub bought: u64,
-    pub sold: u64,
-    pub customers: bool,
-    pub units: u32,
+    bought: u32,
+    sold: u32,
+    customers: bool,
+    units: u32,
 }
 
-// The backings for a buyer, at DBO, and for a seller, at DBB, and whether no leg is crossed.
-#[derive(Clone, Copy)]
+impl Backing {
+    ghost use Rattle.derived.specs.Tallies.{SmallBacking, backing, net_of, collar_for};
+
+    fn none() -> Backing
+        ensures sums { (trader : Side) → result ≡ backing trader [] }
+        ensures small { SmallBacking result 0 }
+    {
+        Backing {
+            bought: 0,
+            sold: 0,
+            customers: true,
+            units: MAX_CONTRACTS,
+        }
+    }
+
+    // A trader's backing with the next leg.
+    #[tactic(auto, using(crate::proofs::Folds::backing_more))]
+    fn with(self, trader: Side, leg: &PricedLeg) -> Backing
+        requires bought { self.bought ≤ 500095000 }
+        requires sold { self.sold ≤ 500095000 }
+        ensures sums { (legs : List SeenLeg) → self ≡ backing trader legs → result ≡ backing trader (legs ++ leg.now ∷ []) }
+        ensures small { (n : ℕ) → SmallBacking self n → SmallBacking result (n + 1) }
+    {
+        Backing {
+            bought: self.bought + leg.worth(Side::Buy, trader),
+            sold: self.sold + leg.worth(Side::Sell, trader),
+            customers: self.customers && leg.has_customers(trader),
+            units: self.units.min(leg.units(trader)),
+        }
+    }
+
+    fn net(self) -> i64
+        ensures { result ≡ net_of self }
+    {
+        i64::from(self.bought) - i64::from(self.sold)
+    }
+
+    // The net price, moved by the smallest ratio towards the other trader's where every level behind it has customers.
+    fn collar(self, trader: Side, smallest: u32) -> i64
+        ensures { result ≡ collar_for trader self smallest }
+    {
+        let net = self.net();
+        if !self.customers {
+            return net;
+        }
+        match trader {
+            Side::Buy => net - i64::from(smallest),
+            Side::Sell => net + i64::from(smallest),
+        }
+    }
+}
+
+// The backings for a buyer, at DBO, and for a seller, at DBB, over the legs so far, how many legs these are, and whether
+// none of them is crossed. A buyer and a seller of units are no bid and offer, so the two are no `BySide`; and the legs are
+// counted because the sums are small for so many.
+#[derive(Drop)]
 pub(crate) struct Tally {
-    pub buyer: Backing,
-    pub seller: Backing,
-    pub apart: bool,
+    legs: usize,
+    buyer: Backing,
+    seller: Backing,
+    apart: bool,
 }
 
-pub(crate) fn used_pair(top: &LegTop) -> Option<UsedPair>
-    requires { SoundTop top.now }
-    ensures { result ≡ used_pair top.now }
-{
-    let Some(bid) = used_in(top, Side::Buy) else {
-        return None;
-    };
-    let Some(offer) = used_in(top, Side::Sell) else {
-        return None;
-    };
-    Some(UsedPair { bid, offer })
+impl Model for Tally {
+    ghost use Rattle.derived.specs.Tallies.{Tallied, SmallTally};
+
+    ghost Value = { Tallied };
+
+    ghost view = { λ t. record { legs = t.legs; buyer = t.buyer; seller = t.seller; apart = t.apart } };
+
+    ghost invariant = { λ t. SmallTally t.legs t.buyer t.seller };
 }
 
-// The side of a leg's quotes with which a trader of units trades.
-fn facing(trader: Side, leg_side: Side) -> Side
-    ensures { result ≡ facing trader leg_side }
-{
-    match trader {
-        Side::Buy => leg_side.opposite(),
-        Side::Sell => leg_side,
+impl Tally {
+    ghost use Rattle.derived.specs.Tallies.{tally, derived_from};
+
+    pub(crate) fn new() -> Tally
+        ensures { result ≡ tally [] }
+    {
+        Tally {
+            legs: 0,
+            buyer: Backing::none(),
+            seller: Backing::none(),
+            apart: true,
+        }
     }
-}
 
-fn price_on(side: Side, used: UsedPair) -> u32
-    ensures { result ≡ price_on side used }
-{
-    match side {
-        Side::Buy => used.bid,
-        Side::Sell => used.offer,
+    // How many legs so far, which is also the place of the next.
+    pub(crate) fn legs(&self) -> usize
+        ensures { result ≡ self.now.legs }
+    {
+        self.legs
     }
-}
 
-fn has_customers(level: Option<Level>) -> bool
-    ensures { result ≡ has_customers level }
-{
-    match level {
-        Some(own) => own.customer >= 1,
-        None => false,
+    // The tally with the next leg.
+    pub(crate) fn with(self, leg: &PricedLeg) -> Tally
+        requires { self.legs < 6 }
+        ensures { (legs : List SeenLeg) → self ≡ tally legs → result ≡ tally (legs ++ leg.now ∷ []) }
+    {
+        Tally {
+            legs: self.legs + 1,
+            buyer: self.buyer.with(Side::Buy, leg),
+            seller: self.seller.with(Side::Sell, leg),
+            apart: self.apart && !leg.is_crossed(),
+        }
     }
-}
 
-fn units_in(level: Option<Level>, ratio: u32) -> u32
-    requires ratio { 1 ≤ ratio }
-    requires level { held level ≤ 10000000 }
-    ensures { result ≡ units_in level ratio }
-{
-    match level {
-        Some(own) => (own.customer + own.other) / ratio,
-        None => 0,
-    }
-}
-
-// The backing with one leg more.
-fn with_leg(backing: Backing, leg: Leg, price: u32, level: Option<Level>) -> Backing
-    requires leg { GoodLeg leg }
-    requires price { price ≤ 1000190 }
-    requires level { held level ≤ 10000000 }
-    requires sums { SmallBacking backing 6 }
-    ensures { result ≡ with_leg backing leg price level }
-{
-    let value = leg.ratio as u64 * price as u64;
-    let customers = backing.customers && has_customers(level);
-    let units = backing.units.min(units_in(level, leg.ratio));
-    match leg.side {
-        Side::Buy => Backing {
-            bought: backing.bought + value,
-            sold: backing.sold,
-            customers,
-            units,
-        },
-        Side::Sell => Backing {
-            bought: backing.bought,
-            sold: backing.sold + value,
-            customers,
-            units,
-        },
-    }
-}
-
-pub(crate) fn no_legs() -> Tally
-    ensures { result ≡ no_tally }
-{
-    let none = Backing {
-        bought: 0,
-        sold: 0,
-        customers: true,
-        units: 10_000_000,
-    };
-    Tally {
-        buyer: none,
-        seller: none,
-        apart: true,
-    }
-}
-
-// One trader's backing with the next leg.
-fn for_trader(backing: Backing, trader: Side, leg: Leg, top: &LegTop, used: UsedPair) -> Backing
-    requires leg { GoodLeg leg }
-    requires used { GoodPair used }
-    requires sound { SoundTop top.now }
-    requires sums { SmallBacking backing 6 }
-    ensures { result ≡ for_trader trader backing leg top.now used }
-{
-    let side = facing(trader, leg.side);
-    let price = price_on(side, used);
-    with_leg(backing, leg, price, own_behind(top.own(side), price))
-}
-
-// The tally with the next leg.
-pub(crate) fn with_next(tally: Tally, leg: Leg, top: &LegTop, used: UsedPair) -> Tally
-    requires leg { GoodLeg leg }
-    requires used { GoodPair used }
-    requires sound { SoundTop top.now }
-    requires sums { SmallTally tally 6 }
-    ensures { result ≡ with_next tally leg top.now used }
-{
-    Tally {
-        buyer: for_trader(tally.buyer, Side::Buy, leg, top, used),
-        seller: for_trader(tally.seller, Side::Sell, leg, top, used),
-        apart: tally.apart && !crossed(top),
-    }
-}
-
-fn net_of(backing: Backing) -> i64
-    requires { SmallBacking backing 6 }
-    ensures { result ≡ net_of backing }
-{
-    backing.bought as i64 - backing.sold as i64
-}
-
-fn top_over(backing: Backing, smallest: u32) -> i64
-    requires { SmallBacking backing 6 }
-    ensures { result ≡ top_over backing smallest }
-{
-    let net = net_of(backing);
-    if backing.customers {
-        net - smallest as i64
-    } else {
-        net
-    }
-}
-
-fn bottom_under(backing: Backing, smallest: u32) -> i64
-    requires { SmallBacking backing 6 }
-    ensures { result ≡ bottom_under backing smallest }
-{
-    let net = net_of(backing);
-    if backing.customers {
-        net + smallest as i64
-    } else {
-        net
-    }
-}
-
-pub(crate) fn derived_from(tally: Tally, smallest: u32) -> Derived
-    requires { SmallTally tally 6 }
-    ensures { result ≡ derived_from tally smallest }
-{
-    Derived {
-        dbb: net_of(tally.seller),
-        dbo: net_of(tally.buyer),
-        collars: (
-            bottom_under(tally.seller, smallest),
-            top_over(tally.buyer, smallest),
-        ),
-        may_meet: tally.apart,
-        buyer_units: tally.buyer.units,
-        seller_units: tally.seller.units,
+    pub(crate) fn derived(&self, smallest: u32) -> Derived
+        ensures { result ≡ derived_from self.now smallest }
+    {
+        Derived {
+            dbb: self.seller.net(),
+            dbo: self.buyer.net(),
+            collars: (
+                self.seller.collar(Side::Sell, smallest),
+                self.buyer.collar(Side::Buy, smallest),
+            ),
+            may_meet: self.apart,
+            buyer_units: self.buyer.units,
+            seller_units: self.seller.units,
+        }
     }
 }

@@ -1,13 +1,13 @@
 //! Used prices of a leg.
 ghost use Rattle.std.specs.Prelude.{◌≡◌, ◌≤◌};
-ghost use Rattle.quotes.specs.Tops.{top_of};
-ghost use Rattle.derived.specs.Used.{SoundTop, Within, bound, better_of, quoted, quoted_price, from_opposite, used_price, own_behind, used_is_own, best_price, crossed};
+ghost use Rattle.quotes.specs.Tops.{top_of, own_of, away_of};
+ghost use Rattle.derived.specs.Used.{SoundTop, Within, bound, better_of, quoted, quoted_price, from_opposite, used_price, own_behind, held, used_is_own, best_price, crossed};
 
 use super::collar::{collar_value, deviation};
 use market::leg_market::MarketView;
 use quotes::level::Level;
 use quotes::top::LegTop;
-use terms::side::Side;
+use terms::side::{BySide, LegSide, Side};
 
 // The worst price that an own quote of this side can have beside the away price and still count.
 fn bound(side: Side, away: u32) -> u32
@@ -29,25 +29,23 @@ fn better_of(side: Side, a: u32, b: u32) -> u32
     }
 }
 
+// The higher bid or the lower offer, own or away.
+fn best_price(side: Side, own: Option<Level>, away: Option<u32>) -> Option<u32>
+    ensures { result ≡ best_price side own away }
+{
+    own.map(|level| away.map_or(level.price, |price| better_of(side, level.price, price)))
+        .or(away)
+}
+
 // The price of one side by what is quoted there: own, else away.
 fn quoted(side: Side, own: Option<Level>, away: Option<u32>) -> Option<u32>
     requires { Within away }
     ensures { result ≡ quoted side own away }
 {
-    let Some(level) = own else {
+    if own.is_none() {
         return away;
-    };
-    let Some(away_price) = away else {
-        return Some(level.price);
-    };
-    Some(better_of(side, level.price, bound(side, away_price)))
-}
-
-fn quoted_price(top: &LegTop, side: Side) -> Option<u32>
-    requires { SoundTop top.now }
-    ensures { result ≡ quoted_price top.now side }
-{
-    quoted(side, top.own(side), top.away(side))
+    }
+    best_price(side, own, away.map(|price| bound(side, price)))
 }
 
 // A price for a side with nothing quoted, a collar value from the price of the opposite side.
@@ -62,83 +60,86 @@ fn from_opposite(side: Side, price: u32) -> u32
     }
 }
 
-pub(crate) fn used_in(top: &LegTop, side: Side) -> Option<u32>
-    requires { SoundTop top.now }
-    ensures { result ≡ used_price top.now side }
-{
-    let Some(price) = quoted_price(top, side) else {
-        let Some(facing) = quoted_price(top, side.opposite()) else {
-            return None;
-        };
-        return Some(from_opposite(side, facing));
-    };
-    Some(price)
+// The top of a leg as a market shows it.
+#[derive(Clone, Copy)]
+pub(crate) struct ShownTop {
+    top: LegTop,
+    ghost sound: { SoundTop top },
 }
 
-// The own level whose price is the used price.
-pub(crate) fn own_behind(level: Option<Level>, price: u32) -> Option<Level>
-    ensures { result ≡ own_behind level price }
-{
-    let Some(own) = level else {
-        return None;
-    };
-    if own.price == price { level } else { None }
-}
+impl ShownTop {
+    pub(crate) fn read<M: MarketView>(market: &M, leg: usize) -> ShownTop
+        ensures { result.top ≡ top_of (M.shown market.now leg) }
+    {
+        ShownTop {
+            top: LegTop {
+                own: BySide {
+                    bid: market.level(LegSide::bid(leg), 0),
+                    offer: market.level(LegSide::offer(leg), 0),
+                },
+                away: BySide {
+                    bid: market.away(LegSide::bid(leg)),
+                    offer: market.away(LegSide::offer(leg)),
+                },
+            },
+        }
+    }
 
-// The higher bid or the lower offer, own or away.
-fn best_price(side: Side, own: Option<Level>, away: Option<u32>) -> Option<u32>
-    ensures { result ≡ best_price side own away }
-{
-    let Some(level) = own else {
-        return away;
-    };
-    let Some(away_price) = away else {
-        return Some(level.price);
-    };
-    Some(better_of(side, level.price, away_price))
-}
+    #[tactic(auto, using(crate::proofs::Bounds::away_of_within))]
+    fn quoted_price(&self, side: Side) -> Option<u32>
+        ensures value { result ≡ quoted_price self.now.top side }
+        ensures within { Within result }
+    {
+        quoted(side, self.top.own(side), self.top.away(side))
+    }
 
-// Whether the higher bid, own or away, reaches the lower offer.
-pub(crate) fn crossed(top: &LegTop) -> bool
-    ensures { result ≡ crossed top.now }
-{
-    let Some(bid) = best_price(Side::Buy, top.bid, top.away_bid) else {
-        return false;
-    };
-    let Some(offer) = best_price(Side::Sell, top.offer, top.away_offer) else {
-        return false;
-    };
-    offer <= bid
-}
+    pub(crate) fn used_price(&self, side: Side) -> Option<u32>
+        ensures { result ≡ used_price self.now.top side }
+    {
+        self.quoted_price(side).or_else(|| {
+            self.quoted_price(side.opposite())
+                .map(|facing| from_opposite(side, facing))
+        })
+    }
 
-// The best own level and the away price of each side of a leg.
-pub(crate) fn leg_top<M: MarketView>(market: &M, leg: usize) -> LegTop
-    ensures value { result ≡ top_of (M.shown market.now leg) }
-    ensures sound { SoundTop result }
-{
-    LegTop {
-        bid: market.level(leg, Side::Buy, 0),
-        offer: market.level(leg, Side::Sell, 0),
-        away_bid: market.away(leg, Side::Buy),
-        away_offer: market.away(leg, Side::Sell),
+    // The own level whose price is the used price.
+    pub(crate) fn own_behind(&self, side: Side, price: u32) -> Option<Level>
+        ensures value { result ≡ own_behind (own_of self.now.top side) price }
+        ensures most { held result ≤ 10000000 }
+    {
+        self.top.own(side).filter(|own| own.price == price)
+    }
+
+    // The higher bid or the lower offer of the leg, own or away.
+    fn best_price(&self, side: Side) -> Option<u32>
+        ensures { result ≡ best_price side (own_of self.now.top side) (away_of self.now.top side) }
+    {
+        best_price(side, self.top.own(side), self.top.away(side))
+    }
+
+    // Whether the higher bid, own or away, reaches the lower offer.
+    pub(crate) fn is_crossed(&self) -> bool
+        ensures { result ≡ crossed self.now.top }
+    {
+        let offer = self.best_price(Side::Sell);
+        self.best_price(Side::Buy)
+            .zip(offer)
+            .is_some_and(|(bid, offer)| offer <= bid)
     }
 }
 
 // The used bid of a leg for the buy side, its used offer for the sell side.
-pub fn used_price<M: MarketView>(market: &M, leg: usize, side: Side) -> Option<u32>
-    ensures { result ≡ used_price (top_of (M.shown market.now leg)) side }
+pub fn used_price<M: MarketView>(market: &M, at: LegSide) -> Option<u32>
+    ensures { result ≡ used_price (top_of (M.shown market.now at.leg)) at.side }
 {
-    let top = leg_top(market, leg);
-    used_in(&top, side)
+    ShownTop::read(market, at.leg).used_price(at.side)
 }
 
 // Whether the used price is that of the best own level.
-pub fn is_own<M: MarketView>(market: &M, leg: usize, side: Side) -> bool
-    ensures { result ≡ used_is_own (top_of (M.shown market.now leg)) side }
+pub fn is_own<M: MarketView>(market: &M, at: LegSide) -> bool
+    ensures { result ≡ used_is_own (top_of (M.shown market.now at.leg)) at.side }
 {
-    let seen = leg_top(market, leg);
-    let Some(price) = used_in(&seen, side) else {
-        return false;
-    };
-    own_behind(seen.own(side), price).is_some()
+    let top = ShownTop::read(market, at.leg);
+    top.used_price(at.side)
+        .is_some_and(|price| top.own_behind(at.side, price).is_some())
 }

@@ -4,18 +4,18 @@ use Rattle.std.proofs.lemmas.Bool.{cases_eq, eq-eqb, ne_eqb, ltb-true}
 use Rattle.terms.specs.declared.refusal.Refusal.{Refusal}
 use Rattle.terms.specs.declared.side.Side.{Side}
 use Rattle.terms.specs.declared.side.Side.TheVariants.{Buy, Sell}
-use Rattle.terms.specs.Sides.{same_side}
+use Rattle.terms.specs.Refusals.{unless_refused}
+use Rattle.terms.specs.Sides.{same_side, on_side, with_on}
 use Rattle.quotes.specs.declared.level.Level.{Level}
 use Rattle.quotes.specs.Shown.{Shown, sound_away, sound_leg}
 use Rattle.quotes.specs.Takes.{replaced}
-use Rattle.quotes.specs.Sheets.{unless_refused, away_given, away_refusal, away_set}
+use Rattle.quotes.specs.Sheets.{away_given, away_refusal, away_set}
 use Rattle.quotes.proofs.Parts.{side-parts, side-whole, leg-parts, leg-whole}
 use Rattle.quotes.proofs.Replaces.{replaced-same}
 use Rattle.quotes.proofs.Sheets.{not-refused-away}
 use Rattle.leg_orders.specs.declared.order.LegOrder.{LegOrder}
-use Rattle.leg_orders.specs.declared.away_prices.AwayPrices.{AwayPrices}
 use Rattle.leg_orders.specs.Levels.{own}
-use Rattle.leg_orders.specs.Books.{no_away, away_on, with_away_on, away_prices, book_shown, SoundBook}
+use Rattle.leg_orders.specs.Books.{no_away, away_prices, book_shown, SoundBook, AwayPrices}
 use Rattle.leg_orders.proofs.Sides.{leg_of, side_of}
 
 leg-away : (bids offers : List Level) (x y p q : Option ℕ) → sound_away p ≡ true → sound_away q ≡ true → sound_leg 16 (leg_of bids offers x y) ≡ true → sound_leg 16 (leg_of bids offers p q) ≡ true
@@ -30,13 +30,13 @@ leg-away bids offers x y p q e f h =
       apart = k.apart;
     })
 
-away-sound : (prices : AwayPrices) (side s : Side) (price : Option ℕ) → sound_away price ≡ true → sound_away (away_on prices s) ≡ true → sound_away (away_on (with_away_on prices side price) s) ≡ true
+away-sound : (prices : AwayPrices) (side s : Side) (price : Option ℕ) → sound_away price ≡ true → sound_away (on_side prices s) ≡ true → sound_away (on_side (with_on prices side price) s) ≡ true
 away-sound prices Buy Buy price e h = e
 away-sound prices Buy Sell price e h = h
 away-sound prices Sell Buy price e h = h
 away-sound prices Sell Sell price e h = e
 
-side-away : (orders : List LegOrder) (away : List AwayPrices) (l : ℕ) (s : Side) → SoundBook orders away → sound_away (away_on (get_or away l no_away) s) ≡ true
+side-away : (orders : List LegOrder) (away : List AwayPrices) (l : ℕ) (s : Side) → SoundBook orders away → sound_away (on_side (get_or away l no_away) s) ≡ true
 side-away orders away l Buy sound = (side-parts 16 Buy (book_shown orders away l Buy) (leg-parts 16 (book_shown orders away l) (sound l)).bids).away
 side-away orders away l Sell sound = (side-parts 16 Sell (book_shown orders away l Sell) (leg-parts 16 (book_shown orders away l) (sound l)).offers).away
 
@@ -46,16 +46,16 @@ pub record AwayKept (orders : List LegOrder) (away : List AwayPrices) (shown : S
   pub shows : (l : ℕ) (s : Side) → book_shown orders away l s ≡ shown l s
 
 away-here : (orders : List LegOrder) (prices : AwayPrices) (leg : ℕ) (side s : Side) (price : Option ℕ) →
-    side_of (own leg s orders) (away_on (with_away_on prices side price) s) ≡ cond (same_side s side) (side_of (own leg side orders) price) (side_of (own leg s orders) (away_on prices s))
+    side_of (own leg s orders) (on_side (with_on prices side price) s) ≡ cond (same_side s side) (side_of (own leg side orders) price) (side_of (own leg s orders) (on_side prices s))
 away-here orders prices leg Buy Buy price = refl
 away-here orders prices leg Buy Sell price = refl
 away-here orders prices leg Sell Buy price = refl
 away-here orders prices leg Sell Sell price = refl
 
 away-changed : (orders : List LegOrder) (away : List AwayPrices) (leg : ℕ) (side : Side) (price : Option ℕ) → length away ≡ 6 → SoundBook orders away → ltb leg 6 ≡ true → sound_away price ≡ true →
-    AwayKept orders (set away leg (with_away_on (get_or away leg no_away) side price)) (replaced (book_shown orders away) leg side (record { own = own leg side orders; away = price }))
+    AwayKept orders (set away leg (with_on (get_or away leg no_away) side price)) (replaced (book_shown orders away) leg side (record { own = own leg side orders; away = price }))
 away-changed orders away leg side price long sound in6 fits =
-    let new = with_away_on (get_or away leg no_away) side price in
+    let new = with_on (get_or away leg no_away) side price in
     let lt : leg < length away = omega (arith, ltb-true leg 6 in6) in
     record {
       long = length-set away leg new ∙ long;
@@ -63,7 +63,7 @@ away-changed orders away leg side price long sound in6 fits =
           elim (cases_eq l leg) [
             | inl same ↦
                 rw (same, get_or-set_same away leg new no_away lt)
-                (leg-away (own leg Buy orders) (own leg Sell orders) (away_on (get_or away leg no_away) Buy) (away_on (get_or away leg no_away) Sell) (away_on new Buy) (away_on new Sell)
+                (leg-away (own leg Buy orders) (own leg Sell orders) (on_side (get_or away leg no_away) Buy) (on_side (get_or away leg no_away) Sell) (on_side new Buy) (on_side new Sell)
                 (away-sound (get_or away leg no_away) side Buy price fits (side-away orders away leg Buy sound))
                 (away-sound (get_or away leg no_away) side Sell price fits (side-away orders away leg Sell sound)) (sound leg))
             | inr other ↦ rw (get_or-set_other away leg l new no_away other) (sound l)
@@ -76,7 +76,7 @@ away-changed orders away leg side price long sound in6 fits =
     }
 
 kept-when : (why : Option Refusal) (orders : List LegOrder) (away : List AwayPrices) (leg : ℕ) (side : Side) (price : ℕ) → length away ≡ 6 → SoundBook orders away → away_refusal leg price ≡ why →
-    AwayKept orders (unless_refused why (set away leg (with_away_on (get_or away leg no_away) side (away_given price))) away)
+    AwayKept orders (unless_refused why (set away leg (with_on (get_or away leg no_away) side (away_given price))) away)
     (replaced (book_shown orders away) leg side (unless_refused why (record { own = own leg side orders; away = away_given price }) (book_shown orders away leg side)))
 kept-when None orders away leg side price long sound e =
     let fits = not-refused-away (ltb leg 6) (sound_away (away_given price)) e in

@@ -5,7 +5,7 @@ use Rattle.std.proofs.lemmas.List.{get_or_past}
 use Rattle.std.proofs.lemmas.Bool.{cases_Bool, and_parts, eqb-true, ne_eqb, leb-true, ltb-true}
 use Rattle.terms.specs.declared.side.Side.{Side}
 use Rattle.terms.specs.declared.side.Side.TheVariants.{Buy, Sell}
-use Rattle.terms.specs.Sides.{same_side}
+use Rattle.terms.specs.Sides.{same_side, on_side}
 use Rattle.quotes.specs.declared.level.Level.{Level}
 use Rattle.quotes.specs.Shown.{SideQuotes, Sound, nothing, sound_leg, sound_level, sound_levels}
 use Rattle.quotes.specs.Takes.{less_best, may_take, taken, levels_left}
@@ -15,10 +15,9 @@ use Rattle.quotes.proofs.LessTaken.{less_none, less-best}
 use Rattle.quotes.proofs.Trials.{leg-less}
 use Rattle.ranked.specs.Order.{in_order}
 use Rattle.leg_orders.specs.declared.order.LegOrder.{LegOrder}
-use Rattle.leg_orders.specs.declared.away_prices.AwayPrices.{AwayPrices}
 use Rattle.leg_orders.specs.Ranks.{leg_before}
 use Rattle.leg_orders.specs.Levels.{is_of, level_from, join, own, enter, enter_if}
-use Rattle.leg_orders.specs.Books.{no_away, away_on, book_shown, SoundBook, fine_orders}
+use Rattle.leg_orders.specs.Books.{no_away, book_shown, SoundBook, fine_orders, AwayPrices}
 use Rattle.leg_orders.specs.Uses.{used_up}
 use Rattle.leg_orders.specs.Adds.{entered}
 use Rattle.leg_orders.specs.Leaves.{leave, left}
@@ -26,25 +25,25 @@ use Rattle.leg_orders.proofs.Enters as enters
 use Rattle.leg_orders.proofs.Lessens.{enough, alone-contracts}
 use Rattle.leg_orders.proofs.Uses.{fine-first, fine-rest, some-contracts, used-levels, used-elsewhere}
 use Rattle.leg_orders.proofs.Sounds.{some_each, leave-entered}
-use Rattle.leg_orders.proofs.Sides.{leg_of, Fits, leg-bid-entered, leg-offer-entered, leg-bid-left, leg-offer-left}
+use Rattle.leg_orders.proofs.Sides.{leg_of, MayEnter, leg-bid-entered, leg-offer-entered, leg-bid-left, leg-offer-left}
 
 -- ---- a leg past the sixth
 
 own-lacks : (leg : ℕ) (side : Side) (xs : List LegOrder) → 6 ≤ leg → fine_orders xs ≡ true → own leg side xs ≡ []
 own-lacks leg side [] past fine = refl
 own-lacks leg side (x ∷ xs) past fine =
-    let low = ltb-true x.leg 6 (and_parts (ltb x.leg 6) (sound_level (level_from x)) (fine-first x xs fine)).0 in
-    let apart : eqb x.leg leg ≡ false = ne_eqb x.leg leg (λ e. omega (arith, low, past, e)) in
+    let low = ltb-true x.at.leg 6 (and_parts (ltb x.at.leg 6) (sound_level (level_from x)) (fine-first x xs fine)).0 in
+    let apart : eqb x.at.leg leg ≡ false = ne_eqb x.at.leg leg (λ e. omega (arith, low, past, e)) in
     rw apart (own-lacks leg side xs past (fine-rest x xs fine))
 
-none-on : (side : Side) → away_on no_away side ≡ None
+none-on : (side : Side) → on_side no_away side ≡ None
 none-on Buy = refl
 none-on Sell = refl
 
 pub book-lacks : (orders : List LegOrder) (away : List AwayPrices) → length away ≡ 6 → fine_orders orders ≡ true → (leg : ℕ) (side : Side) → 6 ≤ leg → book_shown orders away leg side ≡ nothing
 book-lacks orders away long fine leg side past =
-    let none : (s : Side) → away_on (get_or away leg no_away) s ≡ None = λ s. ap (λ (prices : AwayPrices). away_on prices s) (get_or_past away leg no_away (omega arith)) ∙ none-on s in
-    ap (λ (levels : List Level). record { own = levels; away = away_on (get_or away leg no_away) side }) (own-lacks leg side orders past fine)
+    let none : (s : Side) → on_side (get_or away leg no_away) s ≡ None = λ s. ap (λ (prices : AwayPrices). on_side prices s) (get_or_past away leg no_away (omega arith)) ∙ none-on s in
+    ap (λ (levels : List Level). record { own = levels; away = on_side (get_or away leg no_away) side }) (own-lacks leg side orders past fine)
     ∙ ap (λ (price : Option ℕ). record { own = []; away = price }) (none side)
 
 pub book-sound : (orders : List LegOrder) (away : List AwayPrices) → length away ≡ 6 → fine_orders orders ≡ true → SoundBook orders away → Sound 16 (book_shown orders away)
@@ -63,8 +62,8 @@ of_test Sell Sell i l = grind (arith, nat_tests)
 
 same-side : (s t : Side) → same_side s t ≡ true → s ≡ t
 same-side Buy Buy e = refl
-same-side Buy Sell e = absurd (let z : ◌≡◌ {A = ℕ} 0 1 = cc in omega arith)
-same-side Sell Buy e = absurd (let z : ◌≡◌ {A = ℕ} 0 1 = cc in omega arith)
+same-side Buy Sell e = absurd (cc)
+same-side Sell Buy e = absurd (cc)
 same-side Sell Sell e = refl
 
 pub here : (l leg : ℕ) (s side : Side) → (eqb l leg && same_side s side) ≡ true → (l ≡ leg) × (s ≡ side)
@@ -73,14 +72,14 @@ here l leg s side e =
     (eqb-true l leg p.0, same-side s side p.1)
 
 sides_apart : (s : Side) → same_side s Buy ≡ true → same_side s Sell ≡ true → ⊥
-sides_apart Buy a b = let z : ◌≡◌ {A = ℕ} 0 1 = cc in omega arith
-sides_apart Sell a b = let z : ◌≡◌ {A = ℕ} 0 1 = cc in omega arith
+sides_apart Buy a b = cc
+sides_apart Sell a b = cc
 
 not-both : (l : ℕ) (x : LegOrder) → is_of l Buy x ≡ true → is_of l Sell x ≡ true → ⊥
 not-both l x a b =
-    let p = and_parts (eqb x.leg l) (same_side x.side Buy) a in
-    let r = and_parts (eqb x.leg l) (same_side x.side Sell) b in
-    sides_apart x.side p.1 r.1
+    let p = and_parts (eqb x.at.leg l) (same_side x.at.side Buy) a in
+    let r = and_parts (eqb x.at.leg l) (same_side x.at.side Sell) b in
+    sides_apart x.at.side p.1 r.1
 
 -- ---- an order comes in, or leaves
 
@@ -92,16 +91,16 @@ module _ (x : LegOrder) (xs ys : List LegOrder) (away : List AwayPrices) (ranked
   shows-entered l s =
       let old = book_shown (xs ++ ys) away in
       let put : (leg : ℕ) (side : Side) → SideQuotes = λ leg side. record { own = enter side (level_from x) (old leg side).own; away = (old leg side).away } in
-      elim (cases_Bool (eqb l x.leg && same_side s x.side)) [
+      elim (cases_Bool (eqb l x.at.leg && same_side s x.at.side)) [
         | inl e ↦
-            let at = here l x.leg s x.side e in
-            let of : is_of l s x ≡ true = of_test s x.side x.leg l ∙ e in
+            let at = here l x.at.leg s x.at.side e in
+            let of : is_of l s x ≡ true = of_test s x.at.side x.at.leg l ∙ e in
             let own_is : own l s (xs ++ x ∷ ys) ≡ enter s (level_from x) (own l s (xs ++ ys)) = own-entered l s ∙ ap (λ (b : Bool). enter_if b s (level_from x) (own l s (xs ++ ys))) of in
             rw e
             (ap (λ (levels : List Level). record { own = levels; away = (old l s).away }) own_is
-            ∙ ap (λ (leg : ℕ). put leg s) at.0 ∙ ap (λ (side : Side). put x.leg side) at.1)
+            ∙ ap (λ (leg : ℕ). put leg s) at.0 ∙ ap (λ (side : Side). put x.at.leg side) at.1)
         | inr e ↦
-            let of : is_of l s x ≡ false = of_test s x.side x.leg l ∙ e in
+            let of : is_of l s x ≡ false = of_test s x.at.side x.at.leg l ∙ e in
             let own_is : own l s (xs ++ x ∷ ys) ≡ own l s (xs ++ ys) = own-entered l s ∙ ap (λ (b : Bool). enter_if b s (level_from x) (own l s (xs ++ ys))) of in
             rw e (ap (λ (levels : List Level). record { own = levels; away = (old l s).away }) own_is)
       ]
@@ -125,23 +124,23 @@ shows_left x xs ys away ranked fine l s =
     let m = level_from x in
     let rest = own l s (xs ++ ys) in
     let put : (leg : ℕ) (side : Side) → SideQuotes = λ leg side. record { own = leave m (old leg side).own; away = (old leg side).away } in
-    elim (cases_Bool (eqb l x.leg && same_side s x.side)) [
+    elim (cases_Bool (eqb l x.at.leg && same_side s x.at.side)) [
       | inl e ↦
-          let at = here l x.leg s x.side e in
-          let of : is_of l s x ≡ true = of_test s x.side x.leg l ∙ e in
+          let at = here l x.at.leg s x.at.side e in
+          let of : is_of l s x ≡ true = of_test s x.at.side x.at.leg l ∙ e in
           let was : own l s (xs ++ x ∷ ys) ≡ enter s m rest = own-entered x xs ys away ranked l s ∙ ap (λ (b : Bool). enter_if b s m rest) of in
           let is : rest ≡ leave m (own l s (xs ++ x ∷ ys)) = sym (ap (leave m) was ∙ leave-entered s m rest (own-each l s (xs ++ ys) fine)) in
           rw e
           (ap (λ (levels : List Level). record { own = levels; away = (old l s).away }) is
-          ∙ ap (λ (leg : ℕ). put leg s) at.0 ∙ ap (λ (side : Side). put x.leg side) at.1)
+          ∙ ap (λ (leg : ℕ). put leg s) at.0 ∙ ap (λ (side : Side). put x.at.leg side) at.1)
       | inr e ↦
-          let of : is_of l s x ≡ false = of_test s x.side x.leg l ∙ e in
+          let of : is_of l s x ≡ false = of_test s x.at.side x.at.leg l ∙ e in
           let was : own l s (xs ++ x ∷ ys) ≡ rest = own-entered x xs ys away ranked l s ∙ ap (λ (b : Bool). enter_if b s m rest) of in
           rw e (ap (λ (levels : List Level). record { own = levels; away = (old l s).away }) (sym was))
     ]
 
 leg-entered : (bids offers more-bids more-offers : List Level) (p q : Option ℕ) (m : Level) (b c : Bool) →
-    more-bids ≡ enter_if b Buy m bids → more-offers ≡ enter_if c Sell m offers → (b ≡ true → Fits Buy bids offers m) → (c ≡ true → Fits Sell offers bids m) → (b ≡ true → c ≡ true → ⊥) →
+    more-bids ≡ enter_if b Buy m bids → more-offers ≡ enter_if c Sell m offers → (b ≡ true → MayEnter Buy bids offers m) → (c ≡ true → MayEnter Sell offers bids m) → (b ≡ true → c ≡ true → ⊥) →
     sound_leg 16 (leg_of bids offers p q) ≡ true → sound_leg 16 (leg_of more-bids more-offers p q) ≡ true
 leg-entered bids offers more-bids more-offers p q m true true e f g h never k = absurd (never refl refl)
 leg-entered bids offers more-bids more-offers p q m true false e f g h never k = rw (e, f) (leg-bid-entered bids offers p q m (g refl) k)
@@ -159,18 +158,18 @@ leg-left bids offers more-bids more-offers p q m false true e f g h k = leg-offe
 leg-left bids offers more-bids more-offers p q m false false e f g h k = rw (e, f) at k
 
 pub sound-entered : (x : LegOrder) (xs ys : List LegOrder) (away : List AwayPrices) → in_order leg_before (xs ++ x ∷ ys) ≡ true →
-    ((l : ℕ) → is_of l Buy x ≡ true → Fits Buy (own l Buy (xs ++ ys)) (own l Sell (xs ++ ys)) (level_from x)) →
-    ((l : ℕ) → is_of l Sell x ≡ true → Fits Sell (own l Sell (xs ++ ys)) (own l Buy (xs ++ ys)) (level_from x)) →
+    ((l : ℕ) → is_of l Buy x ≡ true → MayEnter Buy (own l Buy (xs ++ ys)) (own l Sell (xs ++ ys)) (level_from x)) →
+    ((l : ℕ) → is_of l Sell x ≡ true → MayEnter Sell (own l Sell (xs ++ ys)) (own l Buy (xs ++ ys)) (level_from x)) →
     SoundBook (xs ++ ys) away → SoundBook (xs ++ x ∷ ys) away
 sound-entered x xs ys away ranked bid offer sound l =
     leg-entered (own l Buy (xs ++ ys)) (own l Sell (xs ++ ys)) (own l Buy (xs ++ x ∷ ys)) (own l Sell (xs ++ x ∷ ys))
-    (away_on (get_or away l no_away) Buy) (away_on (get_or away l no_away) Sell) (level_from x) (is_of l Buy x) (is_of l Sell x)
+    (on_side (get_or away l no_away) Buy) (on_side (get_or away l no_away) Sell) (level_from x) (is_of l Buy x) (is_of l Sell x)
     (own-entered x xs ys away ranked l Buy) (own-entered x xs ys away ranked l Sell) (bid l) (offer l) (not-both l x) (sound l)
 
 pub sound-left : (x : LegOrder) (xs ys : List LegOrder) (away : List AwayPrices) → in_order leg_before (xs ++ x ∷ ys) ≡ true → fine_orders (xs ++ ys) ≡ true → SoundBook (xs ++ x ∷ ys) away → SoundBook (xs ++ ys) away
 sound-left x xs ys away ranked fine sound l =
     leg-left (own l Buy (xs ++ ys)) (own l Sell (xs ++ ys)) (own l Buy (xs ++ x ∷ ys)) (own l Sell (xs ++ x ∷ ys))
-    (away_on (get_or away l no_away) Buy) (away_on (get_or away l no_away) Sell) (level_from x) (is_of l Buy x) (is_of l Sell x)
+    (on_side (get_or away l no_away) Buy) (on_side (get_or away l no_away) Sell) (level_from x) (is_of l Buy x) (is_of l Sell x)
     (own-entered x xs ys away ranked l Buy) (own-entered x xs ys away ranked l Sell) (own-each l Buy (xs ++ ys) fine) (own-each l Sell (xs ++ ys) fine) (sound l)
 
 -- ---- orders are used up
@@ -208,7 +207,7 @@ sound-used leg side n xs away fine ranked e sound l =
     rw (used Buy, used Sell) (leg-less 16 q (cond (eqb l leg && same_side Buy side) n 0) (cond (eqb l leg && same_side Sell side) n 0) (sound l))
 
 pub may-enough : (levels : List Level) (n : ℕ) → may_take levels n ≡ true → enough levels n ≡ true
-may-enough [] n e = absurd (let z : ◌≡◌ {A = ℕ} 0 1 = cc in omega arith)
+may-enough [] n e = absurd (cc)
 may-enough (level ∷ levels) n e = (and_parts (leb 1 n) (leb n (level.customer + level.other)) e).1
 
 pub shows-used : (leg : ℕ) (side : Side) (n : ℕ) (xs : List LegOrder) (away : List AwayPrices) → fine_orders xs ≡ true → in_order leg_before xs ≡ true → may_take (own leg side xs) n ≡ true →

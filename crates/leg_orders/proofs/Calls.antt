@@ -1,20 +1,17 @@
 -- What each call leaves of a book: one record for each, with all that the book keeps and all that the call tells.
-use Rattle.std.proofs.Common.{◌≡◌, ℕ, ◌+◌, Bool, true, cond, leb, List, [], ◌∷◌, length, Some, None, Option, sym, refl, ap, ◌∙◌, subst, arith}
-use Rattle.std.specs.List.{slice_get, insert, remove}
+use Rattle.std.proofs.Common.{◌≡◌, ℕ, ◌+◌, Bool, true, cond, leb, List, length, Some, None, Option, sym, ap, ◌∙◌, subst, arith}
+use Rattle.std.specs.List.{insert, remove}
 use Rattle.std.proofs.lemmas.Bool.{or_parts, leb-false, le-leb}
 use Rattle.terms.specs.declared.side.Side.{Side}
 use Rattle.terms.specs.Sides.{opposite}
-use Rattle.quotes.specs.declared.level.Level.{Level}
 use Rattle.quotes.specs.Takes.{may_take, taken}
-use Rattle.quotes.specs.Tops.{list_of}
 use Rattle.quotes.specs.Sheets.{would_reach, away_set}
 use Rattle.ranked.specs.Order.{in_order, place_for, in_rank, place_given, inserted_at, FoundAt}
 use Rattle.ranked.proofs.Places.{inserted-in-rank}
 use Rattle.leg_orders.specs.declared.order.LegOrder.{LegOrder}
-use Rattle.leg_orders.specs.declared.away_prices.AwayPrices.{AwayPrices}
 use Rattle.leg_orders.specs.Ranks.{leg_before, ahead_of}
 use Rattle.leg_orders.specs.Levels.{own}
-use Rattle.leg_orders.specs.Books.{book_shown, SoundBook, away_prices, may_stand}
+use Rattle.leg_orders.specs.Books.{book_shown, SoundBook, away_prices, may_stand, AwayPrices}
 use Rattle.leg_orders.specs.Uses.{used_up}
 use Rattle.leg_orders.specs.Adds.{crowded, book_full, add_refusal, entered}
 use Rattle.leg_orders.specs.Leaves.{order_numbered, without, left_if}
@@ -35,16 +32,16 @@ pub record Added (orders new : List LegOrder) (away : List AwayPrices) (order : 
 
 pub added : (last room : ℕ) (orders new : List LegOrder) (away : List AwayPrices) (order : LegOrder) (place : Option ℕ) → order.number ≡ last + 1 → Kept last orders away →
     None ≡ add_refusal (book_shown orders away) (book_full room (length orders) last) order →
-    (in_order leg_before orders ≡ true → place ≡ place_given leg_before order orders room) → new ≡ inserted_at orders place order → (in_order leg_before orders ≡ true → in_order leg_before new ≡ true) →
+    place ≡ place_given leg_before order orders room → new ≡ inserted_at orders place order → in_order leg_before new ≡ true →
     Added orders new away order
 added last room orders new away order place next kept fits at list up =
     let full = book_full room (length orders) last in
-    let a = accepted (may_stand order) (would_reach order.side order.price (own order.leg (opposite order.side) orders)) full (crowded order.price order.contracts (own order.leg order.side orders)) (sym fits) in
+    let a = accepted (may_stand order) (would_reach order.at.side order.price (own order.at.leg (opposite order.at.side) orders)) full (crowded order.price order.contracts (own order.at.leg order.at.side orders)) (sym fits) in
     let free = or_parts (leb room (length orders)) (leb 1000000 last) a.room in
     let first = place_for leg_before order orders in
-    let there : place ≡ Some first = at kept.ranked ∙ ap (λ (b : Bool). cond b None (Some first)) free.0 in
+    let there : place ≡ Some first = at ∙ ap (λ (b : Bool). cond b None (Some first)) free.0 in
     let is : new ≡ insert orders first order = list ∙ ap (λ (p : Option ℕ). inserted_at orders p order) there in
-    let ranked : in_order leg_before (insert orders first order) ≡ true = subst (λ (xs : List LegOrder). in_order leg_before xs ≡ true) is (up kept.ranked) in
+    let ranked : in_order leg_before (insert orders first order) ≡ true = subst (λ (xs : List LegOrder). in_order leg_before xs ≡ true) is up in
     record {
       kept =
           subst (λ (number : ℕ). Kept number new away) (sym next)
@@ -62,10 +59,10 @@ pub record Withdrawn (last : ℕ) (orders new : List LegOrder) (away : List Away
   pub shows : (l : ℕ) (s : Side) → book_shown new away l s ≡ left_if (order_numbered number orders) (book_shown orders away) l s
 
 pub withdrawn : (last : ℕ) (orders new : List LegOrder) (away : List AwayPrices) (number place : ℕ) (d : LegOrder) → Kept last orders away → FoundAt (λ (o : LegOrder). o.number) orders number place →
-    new ≡ remove orders place → (in_order leg_before orders ≡ true → in_order leg_before new ≡ true) → Withdrawn last orders new away number
+    new ≡ remove orders place → in_order leg_before new ≡ true → Withdrawn last orders new away number
 withdrawn last orders new away number place d kept at list up =
     let s = standing number orders place at in
-    let ranked : in_order leg_before (remove orders place) ≡ true = subst (λ (xs : List LegOrder). in_order leg_before xs ≡ true) list (up kept.ranked) in
+    let ranked : in_order leg_before (remove orders place) ≡ true = subst (λ (xs : List LegOrder). in_order leg_before xs ≡ true) list up in
     let rest = withdraw-kept last away orders place d at.within ranked kept in
     record {
       kept = subst (λ (xs : List LegOrder). Kept last xs away) (sym list) rest;
@@ -88,17 +85,13 @@ pub record Took (last : ℕ) (orders new : List LegOrder) (away : List AwayPrice
   pub rest : new ≡ used_up leg side quantity orders
   pub shows : (l : ℕ) (s : Side) → book_shown new away l s ≡ taken (book_shown orders away) leg side quantity l s
 
-pub best-may : (levels : List Level) (quantity : ℕ) → may_take (list_of (slice_get levels 0)) quantity ≡ may_take levels quantity
-best-may [] quantity = refl
-best-may (level ∷ levels) quantity = refl
-
 pub took : (last : ℕ) (orders new : List LegOrder) (away : List AwayPrices) (leg : ℕ) (side : Side) (quantity start : ℕ) → Kept last orders away →
     may_take (own leg side orders) quantity ≡ true → start ≡ place_for leg_before (ahead_of leg side) orders →
-    new ≡ used_from start quantity orders → (in_order leg_before orders ≡ true → in_order leg_before new ≡ true) → Took last orders new away leg side quantity
+    new ≡ used_from start quantity orders → in_order leg_before new ≡ true → Took last orders new away leg side quantity
 took last orders new away leg side quantity start kept may at list up =
     let is : new ≡ used_up leg side quantity orders =
     list ∙ ap (λ (n : ℕ). used_from n quantity orders) at ∙ used_start leg side quantity orders kept.fine kept.ranked (may-enough (own leg side orders) quantity may) in
-    let ranked : in_order leg_before (used_up leg side quantity orders) ≡ true = subst (λ (xs : List LegOrder). in_order leg_before xs ≡ true) is (up kept.ranked) in
+    let ranked : in_order leg_before (used_up leg side quantity orders) ≡ true = subst (λ (xs : List LegOrder). in_order leg_before xs ≡ true) is up in
     record {
       kept = subst (λ (xs : List LegOrder). Kept last xs away) (sym is) (take-kept last away leg side quantity orders may ranked kept);
       rest = is;

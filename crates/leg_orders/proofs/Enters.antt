@@ -38,7 +38,7 @@ ranked-price Sell Sell Sell leg i j p q tie a b h = grind (arith, nat_tests)
 
 -- on one side of one leg an order that does not precede another has no better price
 pub no-better : (leg : ℕ) (side : Side) (x y : LegOrder) → is_of leg side x ≡ true → is_of leg side y ≡ true → leg_before y x ≡ false → better side y.price x.price ≡ false
-no-better leg side x y = ranked-price side x.side y.side leg x.leg y.leg x.price y.price (sooner y x)
+no-better leg side x y = ranked-price side x.at.side y.at.side leg x.at.leg y.at.leg x.price y.price (sooner y x)
 
 pub leads-price : (leg : ℕ) (side : Side) (x : LegOrder) (xs : List LegOrder) → is_of leg side x ≡ true → leads leg_before x xs ≡ true → at_least side x.price (own leg side xs) ≡ true
 leads-price leg side x [] of h = refl

@@ -30,8 +30,8 @@ fewer-level p false c n l h = grind (arith, nat_tests)
 
 fewer-stands : (x : LegOrder) (n : ℕ) → n < x.contracts → may_stand x ≡ true → may_stand (fewer x n) ≡ true
 fewer-stands x n l h =
-    let p = and_parts (ltb x.leg 6) (sound_level (level_from x)) h in
-    and_from (ltb x.leg 6) (sound_level (level_from (fewer x n))) p.0 (fewer-level x.price x.customer x.contracts n l p.1)
+    let p = and_parts (ltb x.at.leg 6) (sound_level (level_from x)) h in
+    and_from (ltb x.at.leg 6) (sound_level (level_from (fewer x n))) p.0 (fewer-level x.price x.customer x.contracts n l p.1)
 
 pub fine-used : (leg : ℕ) (side : Side) (n : ℕ) (xs : List LegOrder) → fine_orders xs ≡ true → fine_orders (used_up leg side n xs) ≡ true
 fine-used leg side n [] h = refl

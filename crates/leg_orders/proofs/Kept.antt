@@ -1,5 +1,5 @@
 -- What a book keeps through an add, a withdrawal and a take.
-use Rattle.std.proofs.Common.{◌≡◌, ℕ, ◌+◌, Bool, true, false, cond, ◌||◌, List, ◌∷◌, ◌++◌, take, drop, Some, None, sym, refl, ap, ◌∙◌, subst, arith, take-append-drop}
+use Rattle.std.proofs.Common.{◌≡◌, ℕ, zero, suc, ◌+◌, Bool, true, false, cond, ◌||◌, List, [], ◌∷◌, ◌++◌, take, drop, Some, None, sym, refl, ap, ◌∙◌, subst, take-append-drop}
 use Rattle.std.specs.List.{insert}
 use Rattle.terms.specs.declared.refusal.Refusal.TheVariants.{QuoteRange, QuoteCrosses, BookRoom}
 use Rattle.terms.specs.declared.side.Side.{Side}
@@ -12,18 +12,18 @@ use Rattle.quotes.specs.Sheets.{would_reach}
 use Rattle.quotes.proofs.Parts.{side-parts, leg-side}
 use Rattle.ranked.specs.Order.{leads, in_order, place_for}
 use Rattle.leg_orders.specs.declared.order.LegOrder.{LegOrder}
-use Rattle.leg_orders.specs.declared.away_prices.AwayPrices.{AwayPrices}
 use Rattle.leg_orders.specs.Ranks.{leg_before, ahead_of}
 use Rattle.leg_orders.specs.Levels.{is_of, level_from, own}
-use Rattle.leg_orders.specs.Books.{book_shown, SoundBook, may_stand, fine_orders, numbers_kept}
+use Rattle.leg_orders.specs.Books.{book_shown, SoundBook, may_stand, fine_orders, numbers_kept, AwayPrices}
 use Rattle.leg_orders.specs.Uses.{used_up}
 use Rattle.leg_orders.specs.Adds.{crowded, add_refusal, entered}
 use Rattle.leg_orders.specs.Scans.{Scannable}
+use Rattle.leg_orders.proofs.Enters.{order-rest}
 use Rattle.leg_orders.proofs.Lessens.{alone-contracts}
 use Rattle.leg_orders.proofs.Starts.{start-leads, start-own}
 use Rattle.leg_orders.proofs.Uses.{stands-level}
 use Rattle.leg_orders.proofs.Keeps.{fine_more, fine-less, fine-used, numbers_more, numbers-less, numbers-used}
-use Rattle.leg_orders.proofs.Sides.{Fits}
+use Rattle.leg_orders.proofs.Sides.{MayEnter}
 use Rattle.leg_orders.proofs.Books.{shows-entered, sound-entered, sound-left, sound-used, may-enough, here}
 
 pub record Kept (last : ℕ) (orders : List LegOrder) (away : List AwayPrices) : Type 0 where
@@ -41,28 +41,28 @@ pub record Accepted (stands crosses full crowd : Bool) : Type 0 where
   pub fits : crowd ≡ false
 
 pub accepted : (stands crosses full crowd : Bool) → cond stands (cond crosses (Some QuoteCrosses) (cond (full || crowd) (Some BookRoom) None)) (Some QuoteRange) ≡ None → Accepted stands crosses full crowd
-accepted false crosses full crowd e = absurd (let z : ◌≡◌ {A = ℕ} 0 1 = cc in omega arith)
-accepted true true full crowd e = absurd (let z : ◌≡◌ {A = ℕ} 0 1 = cc in omega arith)
-accepted true false true crowd e = absurd (let z : ◌≡◌ {A = ℕ} 0 1 = cc in omega arith)
-accepted true false false true e = absurd (let z : ◌≡◌ {A = ℕ} 0 1 = cc in omega arith)
+accepted false crosses full crowd e = absurd (cc)
+accepted true true full crowd e = absurd (cc)
+accepted true false true crowd e = absurd (cc)
+accepted true false false true e = absurd (cc)
 accepted true false false false e = record { may = refl; apart = refl; room = refl; fits = refl }
 
-add-fits : (orders : List LegOrder) (away : List AwayPrices) (full : Bool) (x : LegOrder) → add_refusal (book_shown orders away) full x ≡ None → (l : ℕ) (s : Side) → is_of l s x ≡ true → Fits s (own l s orders) (own l (opposite s) orders) (level_from x)
+add-fits : (orders : List LegOrder) (away : List AwayPrices) (full : Bool) (x : LegOrder) → add_refusal (book_shown orders away) full x ≡ None → (l : ℕ) (s : Side) → is_of l s x ≡ true → MayEnter s (own l s orders) (own l (opposite s) orders) (level_from x)
 add-fits orders away full x e l s of =
-    let a = accepted (may_stand x) (would_reach x.side x.price (own x.leg (opposite x.side) orders)) full (crowded x.price x.contracts (own x.leg x.side orders)) e in
-    let at = here x.leg l x.side s of in
+    let a = accepted (may_stand x) (would_reach x.at.side x.price (own x.at.leg (opposite x.at.side) orders)) full (crowded x.price x.contracts (own x.at.leg x.at.side orders)) e in
+    let at = here x.at.leg l x.at.side s of in
     let many : x.contracts ≡ (level_from x).customer + (level_from x).other = sym (alone-contracts x.price x.customer x.contracts) in
-    let fits : Fits x.side (own x.leg x.side orders) (own x.leg (opposite x.side) orders) (level_from x) =
-    record { sound = stands-level x a.may; clear = a.apart; roomy = subst (λ (n : ℕ). crowded x.price n (own x.leg x.side orders) ≡ false) many a.fits } in
-    subst (λ (side : Side). Fits side (own l side orders) (own l (opposite side) orders) (level_from x)) at.1
-    (subst (λ (leg : ℕ). Fits x.side (own leg x.side orders) (own leg (opposite x.side) orders) (level_from x)) at.0 fits)
+    let fits : MayEnter x.at.side (own x.at.leg x.at.side orders) (own x.at.leg (opposite x.at.side) orders) (level_from x) =
+    record { sound = stands-level x a.may; clear = a.apart; roomy = subst (λ (n : ℕ). crowded x.price n (own x.at.leg x.at.side orders) ≡ false) many a.fits } in
+    subst (λ (side : Side). MayEnter side (own l side orders) (own l (opposite side) orders) (level_from x)) at.1
+    (subst (λ (leg : ℕ). MayEnter x.at.side (own leg x.at.side orders) (own leg (opposite x.at.side) orders) (level_from x)) at.0 fits)
 
 -- ---- with the order between two parts of the list
 
 more-kept : (last : ℕ) (away : List AwayPrices) (full : Bool) (x : LegOrder) (xs ys : List LegOrder) → x.number ≡ last + 1 → add_refusal (book_shown (xs ++ ys) away) full x ≡ None → in_order leg_before (xs ++ x ∷ ys) ≡ true → Kept last (xs ++ ys) away → Kept (last + 1) (xs ++ x ∷ ys) away
 more-kept last away full x xs ys next e ranked kept =
     let fits = add-fits (xs ++ ys) away full x e in
-    let a = accepted (may_stand x) (would_reach x.side x.price (own x.leg (opposite x.side) (xs ++ ys))) full (crowded x.price x.contracts (own x.leg x.side (xs ++ ys))) e in
+    let a = accepted (may_stand x) (would_reach x.at.side x.price (own x.at.leg (opposite x.at.side) (xs ++ ys))) full (crowded x.price x.contracts (own x.at.leg x.at.side (xs ++ ys))) e in
     record {
       ranked = ranked;
       fine = fine_more x xs ys a.may kept.fine;
@@ -102,14 +102,19 @@ take-kept last away leg side quantity orders may ranked kept =
 side-levels : (orders : List LegOrder) (away : List AwayPrices) (leg : ℕ) (side : Side) → SoundBook orders away → sound_levels side (own leg side orders) ≡ true
 side-levels orders away leg side sound = (side-parts 16 side (book_shown orders away leg side) (leg-side 16 (book_shown orders away leg) side (sound leg))).levels
 
-pub start-scan : (orders : List LegOrder) (away : List AwayPrices) (leg : ℕ) (side : Side) (start : ℕ) → in_order leg_before orders ≡ true → fine_orders orders ≡ true → SoundBook orders away → start ≡ place_for leg_before (ahead_of leg side) orders →
-    Scannable leg side orders start × (own leg side (drop start orders) ≡ own leg side orders)
-start-scan orders away leg side start ranked fine sound at =
-    let all : own leg side (drop start orders) ≡ own leg side orders = ap (λ (n : ℕ). own leg side (drop n orders)) at ∙ start-own leg side orders fine in (
-      record {
-        ranked = ranked;
-        lead = subst (λ (n : ℕ). leads leg_before (ahead_of leg side) (drop n orders) ≡ true) (sym at) (start-leads (ahead_of leg side) orders ranked);
-        sound = subst (λ (levels : List Level). sound_levels side levels ≡ true) (sym all) (side-levels orders away leg side sound);
-      },
-      all,
-    )
+-- the orders ahead of it are of no level of the side
+pub levels-from : (orders : List LegOrder) (leg : ℕ) (side : Side) → fine_orders orders ≡ true → (start : ℕ) → start ≡ place_for leg_before (ahead_of leg side) orders → own leg side (drop start orders) ≡ own leg side orders
+levels-from orders leg side fine start at = ap (λ (n : ℕ). own leg side (drop n orders)) at ∙ start-own leg side orders fine
+
+order-drop : (orders : List LegOrder) (i : ℕ) → in_order leg_before orders ≡ true → in_order leg_before (drop i orders) ≡ true
+order-drop orders zero h = h
+order-drop [] (suc i) h = refl
+order-drop (x ∷ orders) (suc i) h = order-drop orders i (order-rest x orders h)
+
+pub start-scan : (orders : List LegOrder) (away : List AwayPrices) (leg : ℕ) (side : Side) → in_order leg_before orders ≡ true → fine_orders orders ≡ true → SoundBook orders away → (start : ℕ) → start ≡ place_for leg_before (ahead_of leg side) orders → Scannable leg side (drop start orders)
+start-scan orders away leg side ranked fine sound start at =
+    record {
+      ranked = order-drop orders start ranked;
+      lead = subst (λ (n : ℕ). leads leg_before (ahead_of leg side) (drop n orders) ≡ true) (sym at) (start-leads (ahead_of leg side) orders ranked);
+      sound = subst (λ (levels : List Level). sound_levels side levels ≡ true) (sym (levels-from orders leg side fine start at)) (side-levels orders away leg side sound);
+    }

@@ -1,13 +1,13 @@
 -- An order found by its number and taken out.
-use Rattle.std.proofs.Common.{◌≡◌, ℕ, zero, suc, ◌<◌, true, false, List, [], ◌∷◌, ◌++◌, length, get_or, take, drop, Some, None, sym, refl, ap, ◌∙◌, subst, arith}
+use Rattle.std.proofs.Common.{◌≡◌, ℕ, zero, suc, ◌<◌, true, false, List, [], ◌∷◌, ◌++◌, length, get_or, take, drop, Some, None, sym, refl, ap, ◌∙◌, subst, arith, take-append-drop}
 use Rattle.std.specs.List.{remove}
+use Rattle.std.proofs.Math.Seq.{drop-cons}
 use Rattle.std.proofs.lemmas.Bool.{eq-eqb, ne_eqb}
 use Rattle.terms.specs.declared.side.Side.{Side}
 use Rattle.ranked.specs.Order.{in_order, FoundAt, Found}
 use Rattle.leg_orders.specs.declared.order.LegOrder.{LegOrder}
-use Rattle.leg_orders.specs.declared.away_prices.AwayPrices.{AwayPrices}
 use Rattle.leg_orders.specs.Ranks.{leg_before}
-use Rattle.leg_orders.specs.Books.{book_shown, fine_orders, has_number}
+use Rattle.leg_orders.specs.Books.{book_shown, fine_orders, has_number, AwayPrices}
 use Rattle.leg_orders.specs.Leaves.{order_numbered, without, left}
 use Rattle.leg_orders.proofs.Books.{shows_left}
 use Rattle.leg_orders.proofs.Kept.{Kept, less-kept}
@@ -43,9 +43,7 @@ absent number (x ∷ xs) at =
     record { stands = rw e more.stands; rest = rw e (ap (λ (ys : List LegOrder). x ∷ ys) more.rest); order = rw e more.order }
 
 split_at : (xs : List LegOrder) (place : ℕ) (d : LegOrder) → place < length xs → xs ≡ take place xs ++ get_or xs place d ∷ drop (suc place) xs
-split_at [] place d l = absurd (omega arith)
-split_at (x ∷ xs) zero d l = refl
-split_at (x ∷ xs) (suc place) d l = ap (λ (ys : List LegOrder). x ∷ ys) (split_at xs place d (omega arith))
+split_at xs place d l = sym (take-append-drop place xs) ∙ ap (λ (ys : List LegOrder). take place xs ++ ys) (drop-cons xs place d l)
 
 pub withdraw-kept : (last : ℕ) (away : List AwayPrices) (orders : List LegOrder) (place : ℕ) (d : LegOrder) → place < length orders → in_order leg_before (remove orders place) ≡ true → Kept last orders away → Kept last (remove orders place) away
 withdraw-kept last away orders place d l ranked kept =

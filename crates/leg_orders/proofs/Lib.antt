@@ -11,7 +11,6 @@ pub mod Kept
 pub mod Starts
 pub mod Runs
 pub mod Leaves
-pub mod Crowds
 pub mod UsedFrom
 pub mod Calls
 pub mod Sums

@@ -22,7 +22,7 @@ leg_of bids offers x y Sell = side_of offers y
 
 -- ---- contracts come in that fit
 
-pub record Fits (side : Side) (levels facing : List Level) (level : Level) : Type 0 where
+pub record MayEnter (side : Side) (levels facing : List Level) (level : Level) : Type 0 where
   pub sound : sound_level level ≡ true
   pub clear : would_reach side level.price facing ≡ false
   pub roomy : crowded level.price (contracts level) levels ≡ false
@@ -36,7 +36,7 @@ enter-short side levels m h k room =
           le-leb _ _ (omega (arith, leb-false 16 (length levels) few, (enter-longer side m levels).1))
     ]
 
-pub side-entered : (side : Side) (levels facing : List Level) (price : Option ℕ) (m : Level) → Fits side levels facing m → sound_side 16 side (side_of levels price) ≡ true → sound_side 16 side (side_of (enter side m levels) price) ≡ true
+pub side-entered : (side : Side) (levels facing : List Level) (price : Option ℕ) (m : Level) → MayEnter side levels facing m → sound_side 16 side (side_of levels price) ≡ true → sound_side 16 side (side_of (enter side m levels) price) ≡ true
 side-entered side levels facing price m fits h =
     let p = side-parts 16 side (side_of levels price) h in
     let r = or_parts (not (has_price m.price levels) && leb 16 (length levels)) (ltb 10000000 (contracts_at m.price levels + contracts m)) fits.roomy in
@@ -48,13 +48,13 @@ side-entered side levels facing price m fits h =
       away = p.away;
     })
 
-pub leg-bid-entered : (bids offers : List Level) (x y : Option ℕ) (m : Level) → Fits Buy bids offers m → sound_leg 16 (leg_of bids offers x y) ≡ true → sound_leg 16 (leg_of (enter Buy m bids) offers x y) ≡ true
+pub leg-bid-entered : (bids offers : List Level) (x y : Option ℕ) (m : Level) → MayEnter Buy bids offers m → sound_leg 16 (leg_of bids offers x y) ≡ true → sound_leg 16 (leg_of (enter Buy m bids) offers x y) ≡ true
 leg-bid-entered bids offers x y m fits h =
     let p = leg-parts 16 (leg_of bids offers x y) h in
     leg-whole 16 (leg_of (enter Buy m bids) offers x y)
     (record { bids = side-entered Buy bids offers x m fits p.bids; offers = p.offers; apart = bid-apart m bids offers fits.clear p.apart })
 
-pub leg-offer-entered : (bids offers : List Level) (x y : Option ℕ) (m : Level) → Fits Sell offers bids m → sound_leg 16 (leg_of bids offers x y) ≡ true → sound_leg 16 (leg_of bids (enter Sell m offers) x y) ≡ true
+pub leg-offer-entered : (bids offers : List Level) (x y : Option ℕ) (m : Level) → MayEnter Sell offers bids m → sound_leg 16 (leg_of bids offers x y) ≡ true → sound_leg 16 (leg_of bids (enter Sell m offers) x y) ≡ true
 leg-offer-entered bids offers x y m fits h =
     let p = leg-parts 16 (leg_of bids offers x y) h in
     leg-whole 16 (leg_of bids (enter Sell m offers) x y)

@@ -6,7 +6,7 @@ use Rattle.terms.specs.declared.side.Side.{Side}
 use Rattle.terms.specs.declared.side.Side.TheVariants.{Buy, Sell}
 use Rattle.quotes.specs.declared.level.Level.{Level}
 use Rattle.quotes.specs.Shown.{contracts, sound_level, better, sound_after, sound_levels, uncrossed}
-use Rattle.quotes.specs.Sheets.{would_reach, level_at}
+use Rattle.quotes.specs.Sheets.{would_reach}
 use Rattle.quotes.proofs.LessTaken.{no-offers}
 use Rattle.leg_orders.specs.Ranks.{best_possible}
 use Rattle.leg_orders.specs.Levels.{plus, enter}
@@ -98,7 +98,7 @@ enter-longer side m (l ∷ ls) =
 
 -- each price behind another is worse
 behind-worse : (side : Side) (price p : ℕ) (levels : List Level) → sound_after side price levels ≡ true → has_price p levels ≡ true → better side price p ≡ true
-behind-worse side price p [] h e = absurd (let z : ◌≡◌ {A = ℕ} 0 1 = cc in omega arith)
+behind-worse side price p [] h e = absurd (cc)
 behind-worse side price p (l ∷ ls) h e =
     let a = after-parts side price l ls h in
     elim (cases_eq l.price p) [
@@ -109,7 +109,7 @@ behind-worse side price p (l ∷ ls) h e =
     ]
 
 pub enter-there : (side : Side) (price : ℕ) (m : Level) (levels : List Level) → sound_after side price levels ≡ true → has_price m.price levels ≡ true → length (enter side m levels) ≡ length levels
-enter-there side price m [] h e = absurd (let z : ◌≡◌ {A = ℕ} 0 1 = cc in omega arith)
+enter-there side price m [] h e = absurd (cc)
 enter-there side price m (l ∷ ls) h e =
     let a = after-parts side price l ls h in
     elim (cases_eq m.price l.price) [
@@ -160,6 +160,9 @@ leave-after side price m (l ∷ ls) some h =
                 after-whole side price l ls (record { worse = p.worse; sound = p.sound; rest = leave-after side l.price m ls each.1 p.rest })
           ]
     ]
+
+abbrev level_at : ℕ → ℕ → ℕ → Level
+level_at price customer other = record { price = price; customer = customer; other = other }
 
 less-again : (a b : Level) → a.price ≡ b.price → less (plus a b) a ≡ b
 less-again a b e =

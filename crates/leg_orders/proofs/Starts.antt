@@ -50,16 +50,16 @@ beyond-next leg Sell l Buy m Sell p q tie h k = grind (arith, nat_tests)
 beyond-next leg Sell l Sell m Buy p q tie h k = grind (arith, nat_tests)
 beyond-next leg Sell l Sell m Sell p q tie h k = grind (arith, nat_tests)
 
-none-led : (leg : ℕ) (side : Side) (x : LegOrder) (xs : List LegOrder) → beyond leg side x.leg x.side ≡ true → leads leg_before x xs ≡ true → own leg side xs ≡ []
+none-led : (leg : ℕ) (side : Side) (x : LegOrder) (xs : List LegOrder) → beyond leg side x.at.leg x.at.side ≡ true → leads leg_before x xs ≡ true → own leg side xs ≡ []
 none-led leg side x [] h lead = refl
 none-led leg side x (y ∷ ys) h lead =
-    let far = beyond-next leg side x.leg x.side y.leg y.side y.price x.price (sooner y x) (leads-first x y ys lead) h in
-    rw (beyond-off leg side y.leg y.side far) (none-led leg side x ys h (leads-rest x y ys lead))
+    let far = beyond-next leg side x.at.leg x.at.side y.at.leg y.at.side y.price x.price (sooner y x) (leads-first x y ys lead) h in
+    rw (beyond-off leg side y.at.leg y.at.side far) (none-led leg side x ys h (leads-rest x y ys lead))
 
 -- once an order of another side stands there, none of this side follows
 pub none-behind : (leg : ℕ) (side : Side) (x : LegOrder) (xs : List LegOrder) → leads leg_before (ahead_of leg side) (x ∷ xs) ≡ true → leads leg_before x xs ≡ true → is_of leg side x ≡ false → own leg side (x ∷ xs) ≡ []
 none-behind leg side x xs mark lead off =
-    let far = beyond-first leg side x.leg x.side x.price (best_possible side) (sooner x (ahead_of leg side)) (leads-first (ahead_of leg side) x xs mark) off in
+    let far = beyond-first leg side x.at.leg x.at.side x.price (best_possible side) (sooner x (ahead_of leg side)) (leads-first (ahead_of leg side) x xs mark) off in
     rw off (none-led leg side x xs far lead)
 
 -- ---- from where the side begins
@@ -76,7 +76,7 @@ before-mark leg side x stands h =
     elim (cases_Bool (is_of leg side x)) [
       | inl of ↦
           let range = (and_parts (in_price_range x.price) _ (stands-level x stands)).0 in
-          absurd (both_ways (leg_before (ahead_of leg side) x) h (mark-first side x.side leg x.leg x.price x.number x.customer of range))
+          absurd (both_ways (leg_before (ahead_of leg side) x) h (mark-first side x.at.side leg x.at.leg x.price x.number x.customer of range))
       | inr off ↦ off
     ]
 
@@ -101,7 +101,7 @@ start-own leg side (x ∷ xs) fine =
 fewer-none : (x : LegOrder) → fewer x 0 ≡ x
 fewer-none x =
     let same : x.contracts - 0 ≡ x.contracts = omega arith in
-    ap (λ (n : ℕ). record { number = x.number; leg = x.leg; side = x.side; price = x.price; contracts = n; customer = x.customer }) same
+    ap (λ (n : ℕ). record { number = x.number; at = x.at; price = x.price; contracts = n; customer = x.customer }) same
 
 used-none : (leg : ℕ) (side : Side) (xs : List LegOrder) → fine_orders xs ≡ true → used_up leg side 0 xs ≡ xs
 used-none leg side [] fine = refl

@@ -22,14 +22,14 @@ customer-part true true true n e = refl
 customer-part true true false n e = refl
 customer-part true false true n e = refl
 customer-part true false false n e = refl
-customer-part false customer there n e = absurd (let z : ◌≡◌ {A = ℕ} 0 1 = cc in omega arith)
+customer-part false customer there n e = absurd (cc)
 
 other-part : (here customer there : Bool) (n : ℕ) → here ≡ true → cond there (cond customer 0 n) 0 ≡ cond (here && (there && not customer)) n 0
 other-part true true true n e = refl
 other-part true true false n e = refl
 other-part true false true n e = refl
 other-part true false false n e = refl
-other-part false customer there n e = absurd (let z : ◌≡◌ {A = ℕ} 0 1 = cc in omega arith)
+other-part false customer there n e = absurd (cc)
 
 pub customers-add-up : (leg : ℕ) (side : Side) (price : ℕ) (orders : List LegOrder) → customers_at price (own leg side orders) ≡ customers_ordered leg side price orders
 customers-add-up leg side price [] = refl

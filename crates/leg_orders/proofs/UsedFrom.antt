@@ -1,5 +1,5 @@
 -- Orders used up from a place on, one after the other.
-use Rattle.std.proofs.Common.{◌≡◌, ℕ, zero, suc, ◌-◌, ◌<◌, ◌≤◌, Bool, true, false, cond, not, List, [], ◌∷◌, length, set, Some, None, Option, sym, refl, ap, ◌∙◌, subst, inl, inr, arith}
+use Rattle.std.proofs.Common.{◌≡◌, ℕ, zero, suc, ◌-◌, ◌<◌, ◌≤◌, Bool, true, false, cond, not, List, [], ◌∷◌, set, Some, None, Option, sym, refl, ap, ◌∙◌, subst, inl, inr, arith}
 use Rattle.std.specs.List.{slice_get, remove}
 use Rattle.std.proofs.lemmas.Bool.{cases_Bool, and_from, not_from_false, le-leb, lt-leb}
 use Rattle.ranked.specs.Order.{may_set}
@@ -9,24 +9,15 @@ use Rattle.leg_orders.specs.Uses.{fewer}
 use Rattle.leg_orders.specs.Scans.{used_from}
 use Rattle.leg_orders.specs.RanksLemmas.{oneway}
 
-pub nth-within : (xs : List LegOrder) (place : ℕ) (x : LegOrder) → Some x ≡ slice_get xs place → place < length xs
-nth-within [] place x e = absurd (let z : ◌≡◌ {A = ℕ} 0 1 = cc in omega arith)
-nth-within (y ∷ ys) zero x e = omega arith
-nth-within (y ∷ ys) (suc place) x e = let more = nth-within ys place x e in omega arith
-
-pub nth-missing : (xs : List LegOrder) (place : ℕ) → None ≡ slice_get xs place → length xs ≤ place
-nth-missing [] place e = omega arith
-nth-missing (y ∷ ys) zero e = absurd (let z : ◌≡◌ {A = ℕ} 0 1 = cc in omega arith)
-nth-missing (y ∷ ys) (suc place) e = let more = nth-missing ys place e in omega arith
-
-pub used-past : (xs : List LegOrder) (place n : ℕ) → length xs ≤ place → used_from place n xs ≡ xs
+-- none stands there
+pub used-past : (xs : List LegOrder) (place n : ℕ) → None ≡ slice_get xs place → xs ≡ used_from place n xs
 used-past [] zero n past = refl
 used-past [] (suc place) n past = refl
-used-past (x ∷ xs) zero n past = absurd (omega arith)
-used-past (x ∷ xs) (suc place) n past = ap (λ (ys : List LegOrder). x ∷ ys) (used-past xs place n (omega arith))
+used-past (x ∷ xs) zero n past = absurd (cc)
+used-past (x ∷ xs) (suc place) n past = ap (λ (ys : List LegOrder). x ∷ ys) (used-past xs place n past)
 
 used-part : (xs : List LegOrder) (place n : ℕ) (x : LegOrder) → Some x ≡ slice_get xs place → n < x.contracts → used_from place n xs ≡ set xs place (fewer x n)
-used-part [] place n x e part = absurd (let z : ◌≡◌ {A = ℕ} 0 1 = cc in omega arith)
+used-part [] place n x e part = absurd (cc)
 used-part (y ∷ ys) zero n x e part =
     let same : x ≡ y = grind arith in
     let less : n < y.contracts = subst (λ (o : LegOrder). n < o.contracts) same part in
@@ -34,7 +25,7 @@ used-part (y ∷ ys) zero n x e part =
 used-part (y ∷ ys) (suc place) n x e part = ap (λ (zs : List LegOrder). y ∷ zs) (used-part ys place n x e part)
 
 pub used_all : (xs : List LegOrder) (place n : ℕ) (x : LegOrder) → Some x ≡ slice_get xs place → x.contracts ≤ n → used_from place (n - x.contracts) (remove xs place) ≡ used_from place n xs
-used_all [] place n x e all = absurd (let z : ◌≡◌ {A = ℕ} 0 1 = cc in omega arith)
+used_all [] place n x e all = absurd (cc)
 used_all (y ∷ ys) zero n x e all =
     let same : x ≡ y = grind arith in
     let more : y.contracts ≤ n = subst (λ (o : LegOrder). o.contracts ≤ n) same all in

@@ -25,7 +25,7 @@ pub fine-rest : (x : LegOrder) (xs : List LegOrder) → fine_orders (x ∷ xs) �
 fine-rest x xs h = (and_parts (may_stand x) (fine_orders xs) h).1
 
 pub stands-level : (x : LegOrder) → may_stand x ≡ true → sound_level (level_from x) ≡ true
-stands-level x h = (and_parts (ltb x.leg 6) (sound_level (level_from x)) h).1
+stands-level x h = (and_parts (ltb x.at.leg 6) (sound_level (level_from x)) h).1
 
 pub some-contracts : (x : LegOrder) → may_stand x ≡ true → 1 ≤ x.contracts
 some-contracts x h = omega (arith, (level-bounds (level_from x) (stands-level x h)).some, alone-contracts x.price x.customer x.contracts)
@@ -58,8 +58,8 @@ ranked-customer Sell Sell Sell b leg i j p q m n f g e h = grind (arith, nat_tes
 -- behind an order that is not a customer's no customer's order stands at its price
 no-customer : (leg : ℕ) (side : Side) (x y : LegOrder) → x.customer ≡ false → is_of leg side x ≡ true → is_of leg side y ≡ true → x.price ≡ y.price → leg_before y x ≡ false → y.customer ≡ false
 no-customer leg side x y other f g e h =
-    let k : cond (eqb y.leg x.leg) (placed_of y.side y.price x.side x.price (sooner_of y.customer y.number false x.number)) (ltb y.leg x.leg) ≡ false = rw other at h in
-    ranked-customer side x.side y.side y.customer leg x.leg y.leg x.price y.price x.number y.number f g e k
+    let k : cond (eqb y.at.leg x.at.leg) (placed_of y.at.side y.price x.at.side x.price (sooner_of y.customer y.number false x.number)) (ltb y.at.leg x.at.leg) ≡ false = rw other at h in
+    ranked-customer side x.at.side y.at.side y.customer leg x.at.leg y.at.leg x.price y.price x.number y.number f g e k
 
 others-joined : (p : ℕ) (level : Level) (levels : List Level) → (p ≡ level.price → level.customer ≡ 0) → others_first p levels ≡ true → others_first p (join level levels) ≡ true
 others-joined p level [] k h = grind (arith, nat_tests)
@@ -113,7 +113,7 @@ apart Sell Sell Sell i leg l a b = grind (arith, nat_tests)
 
 -- an order of one side of one leg is of no other
 pub of-no-other : (leg : ℕ) (side : Side) (l : ℕ) (s : Side) (x : LegOrder) → is_of leg side x ≡ true → (eqb l leg && same_side s side) ≡ false → is_of l s x ≡ false
-of-no-other leg side l s x a b = apart x.side side s x.leg leg l a b
+of-no-other leg side l s x a b = apart x.at.side side s x.at.leg leg l a b
 
 pub used-elsewhere : (leg : ℕ) (side : Side) (n : ℕ) (l : ℕ) (s : Side) (xs : List LegOrder) → (eqb l leg && same_side s side) ≡ false → own l s (used_up leg side n xs) ≡ own l s xs
 used-elsewhere leg side n l s [] other = refl

@@ -37,18 +37,18 @@ book_full room standing added = nat_le room standing || nat_le 1000000 added
 abbrev pub add_refusal : Shown → Bool → LegOrder → Option Refusal
 add_refusal shown full order =
     cond (may_stand order)
-    (cond (would_reach order.side order.price (shown order.leg (opposite order.side)).own) (Some QuoteCrosses)
-    (cond (full || crowded order.price order.contracts (shown order.leg order.side).own) (Some BookRoom) None))
+    (cond (would_reach order.at.side order.price (shown order.at.leg (opposite order.at.side)).own) (Some QuoteCrosses)
+    (cond (full || crowded order.price order.contracts (shown order.at.leg order.at.side).own) (Some BookRoom) None))
     (Some QuoteRange)
 
 abbrev pub new_order : ℕ → ℕ → Side → ℕ → ℕ → Bool → LegOrder
 new_order number leg side price quantity customer =
-    record { number = number; leg = leg; side = side; price = price; contracts = quantity; customer = customer }
+    record { number = number; at = record { leg = leg; side = side }; price = price; contracts = quantity; customer = customer }
 
 abbrev pub entered : Shown → LegOrder → Shown
 entered shown order =
-    replaced shown order.leg order.side
+    replaced shown order.at.leg order.at.side
     (record {
-      own = enter order.side (level_from order) (shown order.leg order.side).own;
-      away = (shown order.leg order.side).away;
+      own = enter order.at.side (level_from order) (shown order.at.leg order.at.side).own;
+      away = (shown order.at.leg order.at.side).away;
     })

@@ -38,10 +38,10 @@ leave level (next ∷ rest) =
 
 abbrev pub left : Shown → LegOrder → Shown
 left shown order =
-    replaced shown order.leg order.side
+    replaced shown order.at.leg order.at.side
     (record {
-      own = leave (level_from order) (shown order.leg order.side).own;
-      away = (shown order.leg order.side).away;
+      own = leave (level_from order) (shown order.at.leg order.at.side).own;
+      away = (shown order.at.leg order.at.side).away;
     })
 
 abbrev pub left_if : Option LegOrder → Shown → Shown

@@ -14,7 +14,7 @@ use Rattle.quotes.specs.Shown.{better}
 use Rattle.leg_orders.specs.declared.order.LegOrder.{LegOrder}
 
 abbrev pub is_of : ℕ → Side → LegOrder → Bool
-is_of leg side order = order.leg == leg && same_side order.side side
+is_of leg side order = order.at.leg == leg && same_side order.at.side side
 
 abbrev pub level_from : LegOrder → Level
 level_from order =

@@ -27,10 +27,10 @@ placed_of Buy p Buy q tie = cond (p == q) tie (better Buy p q)
 placed_of Sell p Sell q tie = cond (p == q) tie (better Sell p q)
 
 abbrev pub better_placed : LegOrder → LegOrder → Bool
-better_placed a b = placed_of a.side a.price b.side b.price (sooner a b)
+better_placed a b = placed_of a.at.side a.price b.at.side b.price (sooner a b)
 
 abbrev pub leg_before : LegOrder → LegOrder → Bool
-leg_before a b = cond (a.leg == b.leg) (better_placed a b) (nat_lt a.leg b.leg)
+leg_before a b = cond (a.at.leg == b.at.leg) (better_placed a b) (nat_lt a.at.leg b.at.leg)
 
 -- a price better than all that may stand
 abbrev pub best_possible : Side → ℕ
@@ -38,7 +38,7 @@ best_possible Buy = 1000001
 best_possible Sell = 0
 
 abbrev pub ahead_of : ℕ → Side → LegOrder
-ahead_of leg side = record { number = 0; leg = leg; side = side; price = best_possible side; contracts = 0; customer = true }
+ahead_of leg side = record { number = 0; at = record { leg = leg; side = side }; price = best_possible side; contracts = 0; customer = true }
 
 abbrev pub blank_order : LegOrder
-blank_order = record { number = 0; leg = 0; side = Buy; price = 0; contracts = 0; customer = false }
+blank_order = record { number = 0; at = record { leg = 0; side = Buy }; price = 0; contracts = 0; customer = false }

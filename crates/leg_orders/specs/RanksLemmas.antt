@@ -26,8 +26,8 @@ leg-oneway i j x y k h = grind (arith, nat_tests)
 
 pub oneway : (a b : LegOrder) → leg_before a b ≡ true → leg_before b a ≡ false
 oneway a b =
-    leg-oneway a.leg b.leg (better_placed a b) (better_placed b a)
-    (placed-oneway a.side b.side a.price b.price (sooner a b) (sooner b a)
+    leg-oneway a.at.leg b.at.leg (better_placed a b) (better_placed b a)
+    (placed-oneway a.at.side b.at.side a.price b.price (sooner a b) (sooner b a)
     (sooner-oneway a.customer b.customer a.number b.number))
 
 -- ---- in a chain
@@ -57,6 +57,6 @@ leg-chain i j k x y z w g h = grind (arith, nat_tests)
 
 pub chain : (a b c : LegOrder) → leg_before a b ≡ false → leg_before b c ≡ false → leg_before a c ≡ false
 chain a b c =
-    leg-chain a.leg b.leg c.leg (better_placed a b) (better_placed b c) (better_placed a c)
-    (placed-chain a.side b.side c.side a.price b.price c.price (sooner a b) (sooner b c) (sooner a c)
+    leg-chain a.at.leg b.at.leg c.at.leg (better_placed a b) (better_placed b c) (better_placed a c)
+    (placed-chain a.at.side b.at.side c.at.side a.price b.price c.price (sooner a b) (sooner b c) (sooner a c)
     (sooner-chain a.customer b.customer c.customer a.number b.number c.number))

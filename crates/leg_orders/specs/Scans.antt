@@ -1,11 +1,9 @@
--- Reading the levels of one side of one leg off the orders, from a place on.
---   Scannable        the orders from this place on are in rank, none ranks before that side, and its levels are sound
---   RunFrom          the level made by the orders from one place up to another, and the levels behind it
+-- Orders from where one side of one leg begins.
+--   Scannable        they are in rank, none ranks before that side, and its levels are sound
 --   used_from_first  orders used up from the first on, whatever their leg and side
 --   used_from        the same from a place on
-use Rattle.std.specs.Prelude.{◌≡◌, ℕ, ◌-◌, ◌<◌, ◌≤◌, true, cond, List, [], ◌∷◌, ◌++◌, length, take, drop, nat_le}
+use Rattle.std.specs.Prelude.{◌≡◌, ℕ, ◌-◌, true, cond, List, [], ◌∷◌, ◌++◌, take, drop, nat_le}
 use Rattle.terms.specs.declared.side.Side.{Side}
-use Rattle.quotes.specs.declared.level.Level.{Level}
 use Rattle.quotes.specs.Shown.{sound_levels}
 use Rattle.ranked.specs.Order.{leads, in_order}
 use Rattle.leg_orders.specs.declared.order.LegOrder.{LegOrder}
@@ -13,15 +11,10 @@ use Rattle.leg_orders.specs.Ranks.{leg_before, ahead_of}
 use Rattle.leg_orders.specs.Levels.{own}
 use Rattle.leg_orders.specs.Uses.{fewer}
 
-pub record Scannable (leg : ℕ) (side : Side) (orders : List LegOrder) (place : ℕ) : Type 0 where
+pub record Scannable (leg : ℕ) (side : Side) (orders : List LegOrder) : Type 0 where
   pub ranked : in_order leg_before orders ≡ true
-  pub lead : leads leg_before (ahead_of leg side) (drop place orders) ≡ true
-  pub sound : sound_levels side (own leg side (drop place orders)) ≡ true
-
-pub record RunFrom (leg : ℕ) (side : Side) (orders : List LegOrder) (place : ℕ) (level : Level) (next : ℕ) : Type 0 where
-  pub levels : own leg side (drop place orders) ≡ level ∷ own leg side (drop next orders)
-  pub later : place < next
-  pub within : next ≤ length orders
+  pub lead : leads leg_before (ahead_of leg side) orders ≡ true
+  pub sound : sound_levels side (own leg side orders) ≡ true
 
 abbrev pub used_from_first : ℕ → List LegOrder → List LegOrder
 used_from_first quantity [] = []

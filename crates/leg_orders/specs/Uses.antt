@@ -13,8 +13,7 @@ abbrev pub fewer : LegOrder → ℕ → LegOrder
 fewer order quantity =
     record {
       number = order.number;
-      leg = order.leg;
-      side = order.side;
+      at = order.at;
       price = order.price;
       contracts = order.contracts - quantity;
       customer = order.customer;

@@ -1,19 +1,19 @@
 //! A leg order and its rank.
 ghost use Rattle.std.specs.Prelude.{◌≡◌};
-ghost use Rattle.leg_orders.specs.Ranks.{leg_before, sooner, ahead_of, blank_order};
+ghost use Rattle.leg_orders.specs.Ranks.{leg_before, ahead_of, blank_order};
 ghost use Rattle.leg_orders.specs.Levels.{is_of, level_from};
 ghost use Rattle.leg_orders.specs.Uses.{fewer};
 ghost use Rattle.leg_orders.specs.RanksLemmas;
 
 use quotes::level::{Level, MAX_PRICE};
 use ranked::rank::Rank;
-use terms::side::Side;
+use std::cmp::Ordering;
+use terms::side::{LegSide, Side};
 
-#[derive(Clone, Copy)]
+#[derive(Clone, Copy, PartialEq, Eq, Debug)]
 pub struct LegOrder {
     pub number: u32,
-    pub leg: usize,
-    pub side: Side,
+    pub at: LegSide,
     pub price: u32,
     pub contracts: u32,
     pub customer: bool,
@@ -26,8 +26,7 @@ impl LegOrder {
     {
         LegOrder {
             number: 0,
-            leg: 0,
-            side: Side::Buy,
+            at: LegSide::bid(0),
             price: 0,
             contracts: 0,
             customer: false,
@@ -35,53 +34,41 @@ impl LegOrder {
     }
 
     // Ahead of each order that may stand on this side of the leg, and behind all that rank before it.
-    pub fn ahead_of(leg: usize, side: Side) -> LegOrder
-        ensures { result ≡ ahead_of leg side }
+    pub fn ahead_of(at: LegSide) -> LegOrder
+        ensures { result ≡ ahead_of at.leg at.side }
     {
-        let price = match side {
+        let price = match at.side {
             Side::Buy => MAX_PRICE + 1,
             Side::Sell => 0,
         };
         LegOrder {
             number: 0,
-            leg,
-            side,
+            at,
             price,
             contracts: 0,
             customer: true,
         }
     }
 
-    pub fn is_of(&self, leg: usize, side: Side) -> bool
-        ensures { result ≡ is_of leg side self.now }
+    pub fn is_of(&self, at: LegSide) -> bool
+        ensures { result ≡ is_of at.leg at.side self.now }
     {
-        if self.leg != leg {
-            return false;
-        }
-        match (self.side, side) {
-            (Side::Buy, Side::Buy) => true,
-            (Side::Buy, Side::Sell) => false,
-            (Side::Sell, Side::Buy) => false,
-            (Side::Sell, Side::Sell) => true,
-        }
+        self.at == at
     }
 
     // The level that the order makes alone.
     pub fn level(&self) -> Level
         ensures { result ≡ level_from self.now }
     {
-        if self.customer {
-            Level {
-                price: self.price,
-                customer: self.contracts,
-                other: 0,
-            }
+        let (customer, other) = if self.customer {
+            (self.contracts, 0)
         } else {
-            Level {
-                price: self.price,
-                customer: 0,
-                other: self.contracts,
-            }
+            (0, self.contracts)
+        };
+        Level {
+            price: self.price,
+            customer,
+            other,
         }
     }
 
@@ -91,17 +78,6 @@ impl LegOrder {
         LegOrder {
             contracts: self.contracts.saturating_sub(quantity),
             ..self
-        }
-    }
-
-    // Of two orders at one price on one side.
-    fn is_sooner(&self, other: &LegOrder) -> bool
-        ensures { result ≡ sooner self.now other.now }
-    {
-        if self.customer != other.customer {
-            self.customer
-        } else {
-            self.number < other.number
         }
     }
 }
@@ -115,24 +91,22 @@ impl Rank for LegOrder {
 
     ghost chain = { RanksLemmas.chain };
 
+    // Bids rank ahead of offers, higher bids and lower offers first, customers ahead of others: which price is better hangs on
+    // the side, so no order that is derived from the fields will do.
     fn precedes(&self, other: &LegOrder) -> bool {
-        if self.leg != other.leg {
-            return self.leg < other.leg;
-        }
-        match (self.side, other.side) {
-            (Side::Buy, Side::Sell) => true,
-            (Side::Sell, Side::Buy) => false,
-            (Side::Buy, Side::Buy) => if self.price != other.price {
-                other.price < self.price
-            } else {
-                self.is_sooner(other)
-            },
-            (Side::Sell, Side::Sell) => if self.price != other.price {
-                self.price < other.price
-            } else {
-                self.is_sooner(other)
-            },
-        }
+        let placed = match (self.at.side, other.at.side) {
+            (Side::Buy, Side::Sell) => Ordering::Less,
+            (Side::Sell, Side::Buy) => Ordering::Greater,
+            (Side::Buy, Side::Buy) => other.price.cmp(&self.price),
+            (Side::Sell, Side::Sell) => self.price.cmp(&other.price),
+        };
+        self.at
+            .leg
+            .cmp(&other.at.leg)
+            .then(placed)
+            .then(other.customer.cmp(&self.customer))
+            .then(self.number.cmp(&other.number))
+            .is_lt()
     }
 
     fn number(&self) -> u32 {

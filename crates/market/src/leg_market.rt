@@ -7,7 +7,7 @@ ghost use Rattle.quotes.specs.Takes.{taken, take_answer};
 
 use quotes::level::Level;
 use terms::refusal::Refusal;
-use terms::side::Side;
+use terms::side::LegSide;
 
 // What a market shows. Reading changes nothing.
 pub trait MarketView {
@@ -23,21 +23,22 @@ pub trait MarketView {
 
     ghost sound: { (market : Self) → Sound depth (shown market) };
 
-    // The constant, for clauses to speak of.
+    // The constant, for clauses to speak of. A ghost member of the constant's own name was tried: in an impl with a lifetime the
+    // check refuses it.
     fn max_levels() -> usize
         ensures { result ≡ depth };
 
     // The own level at a place counted from 0, the best first.
-    fn level(&self, leg: usize, side: Side, place: usize) -> Option<Level>
-        ensures { result ≡ slice_get (shown self.now leg side).own place };
+    fn level(&self, at: LegSide, place: usize) -> Option<Level>
+        ensures { result ≡ slice_get (shown self.now at.leg at.side).own place };
 
-    fn away(&self, leg: usize, side: Side) -> Option<u32>
-        ensures { result ≡ (shown self.now leg side).away };
+    fn away(&self, at: LegSide) -> Option<u32>
+        ensures { result ≡ (shown self.now at.leg at.side).away };
 }
 
 pub trait LegMarket: MarketView {
     // Takes from the best own level.
-    fn take(&mut self, leg: usize, side: Side, quantity: u32) -> Result<(), Refusal>
-        ensures answer { result ≡ take_answer (Self.MarketView.shown self.old leg side).own quantity }
-        ensures quotes { (l : ℕ) (s : Side) → Self.MarketView.shown self.new l s ≡ taken (Self.MarketView.shown self.old) leg side quantity l s };
+    fn take(&mut self, at: LegSide, quantity: u32) -> Result<(), Refusal>
+        ensures answer { result ≡ take_answer (Self.MarketView.shown self.old at.leg at.side).own quantity }
+        ensures quotes { (l : ℕ) (s : Side) → Self.MarketView.shown self.new l s ≡ taken (Self.MarketView.shown self.old) at.leg at.side quantity l s };
 }

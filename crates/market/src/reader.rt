@@ -3,7 +3,7 @@ ghost use Rattle.std.specs.Prelude.{◌≡◌};
 
 use super::leg_market::MarketView;
 use quotes::level::Level;
-use terms::side::Side;
+use terms::side::LegSide;
 
 #[derive(Drop)]
 pub struct MarketReader<'a, M> {
@@ -33,11 +33,11 @@ impl<M: MarketView> MarketView for MarketReader<'_, M> {
         M::max_levels()
     }
 
-    fn level(&self, leg: usize, side: Side, place: usize) -> Option<Level> {
-        self.market.level(leg, side, place)
+    fn level(&self, at: LegSide, place: usize) -> Option<Level> {
+        self.market.level(at, place)
     }
 
-    fn away(&self, leg: usize, side: Side) -> Option<u32> {
-        self.market.away(leg, side)
+    fn away(&self, at: LegSide) -> Option<u32> {
+        self.market.away(at)
     }
 }

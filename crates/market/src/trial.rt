@@ -1,5 +1,5 @@
 //! The trial market: takes that leave the market below as it is.
-ghost use Rattle.std.specs.Prelude.{◌≡◌, ℕ, ◌-◌, length, replicate};
+ghost use Rattle.std.specs.Prelude.{◌≡◌, ℕ, ◌-◌, replicate};
 ghost use Rattle.terms.specs.declared.side.Side.{Side};
 ghost use Rattle.quotes.specs.Shown.{held};
 ghost use Rattle.quotes.specs.Takes.{taken, take_answer};
@@ -8,18 +8,18 @@ ghost use Rattle.quotes.proofs.Trials.{tried-sound};
 
 use super::leg_market::{LegMarket, MarketView};
 use super::trial_levels::{first_left, level_left};
-use super::trial_totals::{add_take, no_totals, total_at};
+use super::trial_totals::{add_take, total_at};
 use quotes::level::Level;
 use quotes::taken::Taken;
 use terms::refusal::Refusal;
-use terms::side::Side;
+use terms::side::{BySide, LegSide};
+use terms::strategy::MAX_LEGS;
 
 // One total for each leg and side: the contracts taken in this trial.
 #[derive(Drop)]
 pub struct Trial<M> {
     below: M,
-    totals: [Taken; 6],
-    ghost long: { length totals ≡ 6 },
+    totals: [Taken; MAX_LEGS],
 }
 
 impl<M: MarketView> Trial<M> {
@@ -30,12 +30,12 @@ impl<M: MarketView> Trial<M> {
     {
         Trial {
             below,
-            totals: no_totals(),
+            totals: [BySide::default(); MAX_LEGS],
         }
     }
 
     // Goes on with what was taken in an earlier trial, even where less stands now.
-    pub fn resume(below: M, totals: [Taken; 6]) -> Trial<M>
+    pub fn resume(below: M, totals: [Taken; MAX_LEGS]) -> Trial<M>
         ensures quotes { (l : ℕ) (s : Side) → tried (M.shown result.below) result.totals l s ≡ tried (M.shown below) totals l s }
         ensures below { result.below ≡ below }
         ensures totals { result.totals ≡ totals }
@@ -51,7 +51,7 @@ impl<M: MarketView> Trial<M> {
         &self.below
     }
 
-    pub fn totals(&self) -> [Taken; 6]
+    pub fn totals(&self) -> [Taken; MAX_LEGS]
         ensures { result ≡ self.now.totals }
     {
         self.totals
@@ -91,32 +91,24 @@ impl<M: MarketView> MarketView for Trial<M> {
         M::max_levels()
     }
 
-    fn level(&self, leg: usize, side: Side, place: usize) -> Option<Level> {
-        level_left(
-            &self.below,
-            leg,
-            side,
-            total_at(&self.totals, leg, side),
-            place,
-        )
+    fn level(&self, at: LegSide, place: usize) -> Option<Level> {
+        level_left(&self.below, at, total_at(&self.totals, at), place)
     }
 
-    fn away(&self, leg: usize, side: Side) -> Option<u32> {
-        self.below.away(leg, side)
+    fn away(&self, at: LegSide) -> Option<u32> {
+        self.below.away(at)
     }
 }
 
 impl<M: MarketView> LegMarket for Trial<M> {
-    fn take(&mut self, leg: usize, side: Side, quantity: u32) -> Result<(), Refusal>
-        ensures answer { result ≡ take_answer (tried (M.shown self.old.below) self.old.totals leg side).own quantity }
-        ensures quotes { (l : ℕ) (s : Side) → tried (M.shown self.new.below) self.new.totals l s ≡ taken (tried (M.shown self.old.below) self.old.totals) leg side quantity l s }
+    fn take(&mut self, at: LegSide, quantity: u32) -> Result<(), Refusal>
+        ensures answer { result ≡ take_answer (tried (M.shown self.old.below) self.old.totals at.leg at.side).own quantity }
+        ensures quotes { (l : ℕ) (s : Side) → tried (M.shown self.new.below) self.new.totals l s ≡ taken (tried (M.shown self.old.below) self.old.totals) at.leg at.side quantity l s }
         ensures below { self.new.below ≡ self.old.below }
-        ensures totals { self.new.totals ≡ taken_more self.old.totals leg side (tried (M.shown self.old.below) self.old.totals leg side).own quantity }
+        ensures totals { self.new.totals ≡ taken_more self.old.totals at.leg at.side (tried (M.shown self.old.below) self.old.totals at.leg at.side).own quantity }
     {
-        let total = total_at(&self.totals, leg, side);
-        let Some(found) = first_left(&self.below, leg, side, total) else {
-            return Err(Refusal::CannotTake);
-        };
-        add_take(&mut self.totals, leg, side, found.level, quantity)
+        let total = total_at(&self.totals, at);
+        let found = first_left(&self.below, at, total).ok_or(Refusal::CannotTake)?;
+        add_take(&mut self.totals, at, found.level, quantity)
     }
 }

@@ -5,27 +5,18 @@ use derived::prices::derived_prices;
 use derived::used::{is_own, used_price};
 use market::leg_market::MarketView;
 use market::sheet::QuoteSheet;
+use quotes::level::Level;
 use std::io;
 use terms::leg::{Leg, OptionKind};
 use terms::refusal::Refusal;
-use terms::side::Side;
+use terms::side::{LegSide, Side};
 use terms::strategy::Strategy;
 
-// An own level as it is set on the sheet.
+// What is set on one side of a leg: an own level or an away price.
 #[derive(Clone, Copy)]
-struct OwnQuote {
-    leg: usize,
-    side: Side,
-    price: u32,
-    customer: u32,
-    other: u32,
-}
-
-#[derive(Clone, Copy)]
-struct AwayQuote {
-    leg: usize,
-    side: Side,
-    price: u32,
+struct Quote<T> {
+    at: LegSide,
+    value: T,
 }
 
 fn call(side: Side, ratio: u32) -> Leg {
@@ -36,149 +27,111 @@ fn call(side: Side, ratio: u32) -> Leg {
     }
 }
 
-fn own(leg: usize, side: Side, price: u32, customer: u32, other: u32) -> OwnQuote {
-    OwnQuote {
-        leg,
-        side,
-        price,
-        customer,
-        other,
+fn own(at: LegSide, price: u32, customer: u32, other: u32) -> Quote<Level> {
+    Quote {
+        at,
+        value: Level {
+            price,
+            customer,
+            other,
+        },
     }
 }
 
-fn side_name(side: Side) -> &'static str {
-    match side {
-        Side::Buy => "buy",
-        Side::Sell => "sell",
-    }
-}
-
-fn kind_name(kind: OptionKind) -> &'static str {
-    match kind {
-        OptionKind::Call => "call",
-        OptionKind::Put => "put",
-    }
-}
-
+// A yes or no, where `bool` would be written as true or false.
 fn yes_no(answer: bool) -> &'static str {
     if answer { "yes" } else { "no" }
 }
 
-fn show_own(rt: &HostRuntime, sheet: &QuoteSheet, place: usize, side: Side) -> io::Result<()> {
-    let Some(level) = sheet.level(place, side, 0) else {
-        return print!(rt; "own none");
-    };
-    let price = level.price;
-    let customer = level.customer;
-    let other = level.other;
-    print!(rt; "own {price} ({customer} customer, {other} other)")
+fn show_own(rt: &HostRuntime, level: Option<Level>) -> io::Result<()> {
+    match level {
+        Some(own) => print!(rt;
+            "own {} ({} customer, {} other)",
+            own.price, own.customer, own.other
+        ),
+        None => print!(rt; "own none"),
+    }
 }
 
-fn show_away(rt: &HostRuntime, sheet: &QuoteSheet, place: usize, side: Side) -> io::Result<()> {
-    match sheet.away(place, side) {
+fn show_away(rt: &HostRuntime, away: Option<u32>) -> io::Result<()> {
+    match away {
         Some(price) => print!(rt; ", away {price}"),
         None => print!(rt; ", away none"),
     }
 }
 
-fn show_used(rt: &HostRuntime, sheet: &QuoteSheet, place: usize, side: Side) -> io::Result<()> {
-    let Some(price) = used_price(sheet, place, side) else {
-        return println!(rt; ": no used price");
-    };
-    let ground = if is_own(sheet, place, side) {
-        "own"
-    } else {
-        "not own"
-    };
-    println!(rt; ": used {price}, {ground}")
+fn show_used(rt: &HostRuntime, used: Option<u32>, own: bool) -> io::Result<()> {
+    match used {
+        Some(price) => println!(rt; ": used {price}, {}", if own { "own" } else { "not own" }),
+        None => println!(rt; ": no used price"),
+    }
 }
 
-fn show_side(rt: &HostRuntime, sheet: &QuoteSheet, place: usize, side: Side) -> io::Result<()> {
-    match side {
+fn show_side(rt: &HostRuntime, sheet: &QuoteSheet, at: LegSide) -> io::Result<()> {
+    match at.side {
         Side::Buy => print!(rt; "    bid:   ")?,
         Side::Sell => print!(rt; "    offer: ")?,
     }
-    show_own(rt, sheet, place, side)?;
-    show_away(rt, sheet, place, side)?;
-    show_used(rt, sheet, place, side)
+    show_own(rt, sheet.level(at, 0))?;
+    show_away(rt, sheet.away(at))?;
+    show_used(rt, used_price(sheet, at), is_own(sheet, at))
 }
 
 fn show_leg(rt: &HostRuntime, sheet: &QuoteSheet, place: usize, leg: Leg) -> io::Result<()> {
-    let side = side_name(leg.side);
-    let ratio = leg.ratio;
-    let kind = kind_name(leg.kind);
-    println!(rt; "  leg {place}: {side} {ratio} {kind}")?;
-    show_side(rt, sheet, place, Side::Buy)?;
-    show_side(rt, sheet, place, Side::Sell)
+    println!(rt; "  leg {place}: {} {} {}", leg.side, leg.ratio, leg.kind)?;
+    show_side(rt, sheet, LegSide::bid(place))?;
+    show_side(rt, sheet, LegSide::offer(place))
 }
 
 fn show_prices(rt: &HostRuntime, strategy: &Strategy, sheet: &QuoteSheet) -> io::Result<()> {
+    // it prints and leaves, and hands no absence on
     let Some(derived) = derived_prices(strategy, sheet) else {
         return println!(rt; "  no derived prices: a leg has no used price");
     };
-    let dbb = derived.dbb;
-    let dbo = derived.dbo;
     let (bottom, top) = derived.collars;
-    let meet = yes_no(derived.may_meet);
-    let buyer = derived.buyer_units;
-    let seller = derived.seller_units;
-    println!(rt; "  DBB {dbb}, DBO {dbo}")?;
+    println!(rt; "  DBB {}, DBO {}", derived.dbb, derived.dbo)?;
     println!(rt; "  collars: bottom {bottom}, top {top}")?;
-    println!(rt; "  leg units: {buyer} for a buyer, {seller} for a seller")?;
-    println!(rt; "  ECOs may meet: {meet}")
+    println!(rt;
+        "  leg units: {} for a buyer, {} for a seller",
+        derived.buyer_units, derived.seller_units
+    )?;
+    println!(rt; "  ECOs may meet: {}", yes_no(derived.may_meet))
 }
 
-fn show_refusal(rt: &HostRuntime, what: &str, refusal: Refusal) -> io::Result<()> {
-    let number = refusal.number();
-    println!(rt; "  {what} refused with {number}")
-}
-
-fn set_quotes(rt: &HostRuntime, sheet: &mut QuoteSheet, quotes: &[OwnQuote]) -> io::Result<()> {
-    for quote in quotes {
-        if let Err(refusal) = sheet.set_own(
-            quote.leg,
-            quote.side,
-            quote.price,
-            quote.customer,
-            quote.other,
-        ) {
-            show_refusal(rt, "own quote", refusal)?;
-        }
+// Says so where a call was refused.
+fn show_refused(rt: &HostRuntime, what: &str, answer: Result<(), Refusal>) -> io::Result<()> {
+    match answer {
+        Ok(()) => Ok(()),
+        Err(refusal) => println!(rt; "  {what} {refusal}"),
     }
-    Ok(())
-}
-
-fn set_aways(rt: &HostRuntime, sheet: &mut QuoteSheet, aways: &[AwayQuote]) -> io::Result<()> {
-    for away in aways {
-        if let Err(refusal) = sheet.set_away(away.leg, away.side, away.price) {
-            show_refusal(rt, "away price", refusal)?;
-        }
-    }
-    Ok(())
 }
 
 fn price(
     rt: &HostRuntime,
     title: &str,
     legs: &[Leg],
-    quotes: &[OwnQuote],
-    aways: &[AwayQuote],
+    quotes: &[Quote<Level>],
+    aways: &[Quote<u32>],
 ) -> io::Result<()> {
     println!(rt; "{title}")?;
     let strategy = match Strategy::make(legs) {
         Ok(strategy) => strategy,
-        Err(refusal) => {
-            return show_refusal(rt, "strategy", refusal);
-        }
+        Err(refusal) => return println!(rt; "  strategy {refusal}"),
     };
     let mut sheet = QuoteSheet::new();
-    set_quotes(rt, &mut sheet, quotes)?;
-    set_aways(rt, &mut sheet, aways)?;
-    let smallest = strategy.smallest_ratio();
-    let complex_only = yes_no(strategy.counts_complex_only());
-    println!(rt; "  smallest ratio {smallest}, every ECO counts as Complex Only: {complex_only}")?;
-    for i in 0..legs.len() {
-        show_leg(rt, &sheet, i, legs[i])?;
+    for own in quotes {
+        show_refused(rt, "own quote", sheet.set_own(own.at, own.value))?;
+    }
+    for away in aways {
+        show_refused(rt, "away price", sheet.set_away(away.at, away.value))?;
+    }
+    println!(rt;
+        "  smallest ratio {}, every ECO counts as Complex Only: {}",
+        strategy.smallest_ratio(),
+        yes_no(strategy.counts_complex_only())
+    )?;
+    for (place, leg) in legs.iter().enumerate() {
+        show_leg(rt, &sheet, place, *leg)?;
     }
     show_prices(rt, &strategy, &sheet)
 }
@@ -186,10 +139,10 @@ fn price(
 fn spread(rt: &HostRuntime) -> io::Result<()> {
     let legs = [call(Side::Buy, 1), call(Side::Sell, 2)];
     let plain = [
-        own(0, Side::Buy, 300, 0, 9),
-        own(0, Side::Sell, 310, 0, 9),
-        own(1, Side::Buy, 100, 0, 9),
-        own(1, Side::Sell, 104, 0, 9),
+        own(LegSide::bid(0), 300, 0, 9),
+        own(LegSide::offer(0), 310, 0, 9),
+        own(LegSide::bid(1), 100, 0, 9),
+        own(LegSide::offer(1), 104, 0, 9),
     ];
     price(
         rt,
@@ -199,10 +152,10 @@ fn spread(rt: &HostRuntime) -> io::Result<()> {
         &[],
     )?;
     let customers = [
-        own(0, Side::Buy, 300, 0, 9),
-        own(0, Side::Sell, 310, 5, 4),
-        own(1, Side::Buy, 100, 1, 8),
-        own(1, Side::Sell, 104, 0, 9),
+        own(LegSide::bid(0), 300, 0, 9),
+        own(LegSide::offer(0), 310, 5, 4),
+        own(LegSide::bid(1), 100, 1, 8),
+        own(LegSide::offer(1), 104, 0, 9),
     ];
     price(
         rt,
@@ -216,33 +169,34 @@ fn spread(rt: &HostRuntime) -> io::Result<()> {
 fn one_sided(rt: &HostRuntime) -> io::Result<()> {
     let legs = [call(Side::Buy, 1), call(Side::Sell, 1)];
     let quotes = [
-        own(0, Side::Sell, 101, 0, 7),
-        own(1, Side::Buy, 40, 2, 0),
-        own(1, Side::Sell, 43, 0, 5),
+        own(LegSide::offer(0), 101, 0, 7),
+        own(LegSide::bid(1), 40, 2, 0),
+        own(LegSide::offer(1), 43, 0, 5),
     ];
     price(rt, "A leg that has only an offer", &legs, &quotes, &[])?;
-    let missing = [own(1, Side::Buy, 40, 2, 0), own(1, Side::Sell, 43, 0, 5)];
+    let missing = [
+        own(LegSide::bid(1), 40, 2, 0),
+        own(LegSide::offer(1), 43, 0, 5),
+    ];
     price(rt, "A leg that has no quote", &legs, &missing, &[])
 }
 
 fn away_bound(rt: &HostRuntime) -> io::Result<()> {
     let legs = [call(Side::Buy, 1), call(Side::Sell, 1)];
     let quotes = [
-        own(0, Side::Buy, 227, 0, 7),
-        own(0, Side::Sell, 250, 0, 7),
-        own(1, Side::Buy, 228, 0, 7),
-        own(1, Side::Sell, 250, 0, 7),
+        own(LegSide::bid(0), 227, 0, 7),
+        own(LegSide::offer(0), 250, 0, 7),
+        own(LegSide::bid(1), 228, 0, 7),
+        own(LegSide::offer(1), 250, 0, 7),
     ];
     let aways = [
-        AwayQuote {
-            leg: 0,
-            side: Side::Buy,
-            price: 240,
+        Quote {
+            at: LegSide::bid(0),
+            value: 240,
         },
-        AwayQuote {
-            leg: 1,
-            side: Side::Buy,
-            price: 240,
+        Quote {
+            at: LegSide::bid(1),
+            value: 240,
         },
     ];
     price(
@@ -265,9 +219,9 @@ fn refusals(rt: &HostRuntime) -> io::Result<()> {
     )?;
     let legs = [call(Side::Buy, 1), call(Side::Sell, 1)];
     let quotes = [
-        own(0, Side::Buy, 1_000_001, 0, 1),
-        own(0, Side::Sell, 50, 0, 1),
-        own(0, Side::Buy, 50, 0, 1),
+        own(LegSide::bid(0), 1_000_001, 0, 1),
+        own(LegSide::offer(0), 50, 0, 1),
+        own(LegSide::bid(0), 50, 0, 1),
     ];
     price(
         rt,

@@ -7,7 +7,6 @@ use Rattle.terms.specs.declared.side.Side.TheVariants.{Buy, Sell}
 use Rattle.quotes.specs.declared.level.Level.{Level}
 use Rattle.quotes.specs.Shown.{contracts, held, sound_level, better, sound_after, sound_levels, uncrossed}
 use Rattle.quotes.specs.Takes.{lessened, less_best, may_take}
-use Rattle.quotes.specs.Sheets.{level_at}
 use Rattle.quotes.specs.Trials.{less_taken}
 use Rattle.quotes.proofs.Parts.{level-bounds, first-sound}
 
@@ -91,6 +90,9 @@ pub less-apart : (bids offers : List Level) (n m : ℕ) → sound_levels Buy bid
 less-apart bids offers n m b o apart = less-offers (less_taken bids n) offers m o (less-bids bids offers n b apart)
 
 -- ---- adding up
+
+abbrev level_at : ℕ → ℕ → ℕ → Level
+level_at price customer other = record { price = price; customer = customer; other = other }
 
 pub lessened-none : (level : Level) → lessened level 0 ≡ level
 lessened-none level =

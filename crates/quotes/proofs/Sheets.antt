@@ -6,13 +6,14 @@ use Rattle.terms.specs.declared.refusal.Refusal.{Refusal}
 use Rattle.terms.specs.declared.refusal.Refusal.TheVariants.{QuoteRange}
 use Rattle.terms.specs.declared.side.Side.{Side}
 use Rattle.terms.specs.declared.side.Side.TheVariants.{Buy, Sell}
+use Rattle.terms.specs.Refusals.{unless_refused}
 use Rattle.terms.specs.Sides.{opposite}
 use Rattle.quotes.specs.declared.level.Level.{Level}
 use Rattle.quotes.specs.declared.top.LegTop.{LegTop}
 use Rattle.quotes.specs.Shown.{SideQuotes, LegQuotes, Shown, Sound, sound_leg, sound_away, nothing}
 use Rattle.quotes.specs.Takes.{replaced, may_take, less_best, taken}
 use Rattle.quotes.specs.Tops.{no_top, quotes_of, list_of, own_of, with_own, with_away}
-use Rattle.quotes.specs.Sheets.{shown_of, sound_tops, unless_refused, level_given, level_refusal, own_left, own_refusal, own_set, own_put, away_given, away_refusal, away_set, away_put, take_put}
+use Rattle.quotes.specs.Sheets.{shown_of, sound_tops, level_given, level_refusal, own_left, own_refusal, own_set, own_put, away_given, away_refusal, away_set, away_put, take_put}
 use Rattle.quotes.proofs.Replaces.{replaced-same}
 use Rattle.quotes.proofs.Tops.{take-keeps, take-leaves, set-own-keeps, set-away-keeps, own-here, own-there, away-here, away-there}
 
@@ -75,7 +76,7 @@ same tops leg side long sound = record { long = long; sound = sound; shows = rep
 
 not-refused : (in6 : Bool) (why : Option Refusal) → cond in6 why (Some QuoteRange) ≡ None → (in6 ≡ true) × (why ≡ None)
 not-refused true why e = (refl, e)
-not-refused false why e = absurd (let z : ◌≡◌ {A = ℕ} 0 1 = cc in omega arith)
+not-refused false why e = absurd (cc)
 
 own-keeps : (why : Option Refusal) (tops : List LegTop) (leg : ℕ) (side : Side) (level : Level) → length tops ≡ 6 → sound_tops tops ≡ true → own_refusal (shown_of tops) leg side level ≡ why →
     Keeps tops (unless_refused why (set tops leg (with_own (get_or tops leg no_top) side (level_given level))) tops)
@@ -92,8 +93,8 @@ put-own-keeps tops leg side level long sound = own-keeps (own_refusal (shown_of 
 
 pub not-refused-away : (in6 fits : Bool) → cond (in6 && fits) None (Some QuoteRange) ≡ None → (in6 ≡ true) × (fits ≡ true)
 not-refused-away true true e = (refl, refl)
-not-refused-away true false e = absurd (let z : ◌≡◌ {A = ℕ} 0 1 = cc in omega arith)
-not-refused-away false fits e = absurd (let z : ◌≡◌ {A = ℕ} 0 1 = cc in omega arith)
+not-refused-away true false e = absurd (cc)
+not-refused-away false fits e = absurd (cc)
 
 away-keeps : (why : Option Refusal) (tops : List LegTop) (leg : ℕ) (side : Side) (price : ℕ) → length tops ≡ 6 → sound_tops tops ≡ true → away_refusal leg price ≡ why →
     Keeps tops (unless_refused why (set tops leg (with_away (get_or tops leg no_top) side (away_given price))) tops)

@@ -1,9 +1,9 @@
 -- One leg of depth 1: what a take and a new own level or away price leave of it is sound.
-use Rattle.std.proofs.Common.{◌≡◌, ℕ, zero, suc, ◌<◌, Bool, true, false, cond, ltb, leb, [], ◌∷◌, length, Some, None, Option, refl, arith}
-use Rattle.std.specs.List.{slice_get}
+use Rattle.std.proofs.Common.{◌≡◌, ℕ, Bool, true, false, cond, ltb, leb, [], ◌∷◌, length, Some, None, Option, refl, arith}
 use Rattle.std.proofs.lemmas.Bool.Decides.{nat_tests}
 use Rattle.terms.specs.declared.side.Side.{Side}
 use Rattle.terms.specs.declared.side.Side.TheVariants.{Buy, Sell}
+use Rattle.terms.specs.declared.side.BySide.{BySide}
 use Rattle.terms.specs.Sides.{opposite}
 use Rattle.quotes.specs.declared.level.Level.{Level}
 use Rattle.quotes.specs.declared.top.LegTop.{LegTop}
@@ -15,23 +15,23 @@ use Rattle.quotes.proofs.Parts.{side-parts, side-whole, leg-parts, leg-whole}
 
 -- ---- a take
 
-take-keeps-bid : (level : Level) (offer : Option Level) (x y : Option ℕ) (n : ℕ) → may_take (level ∷ []) n ≡ true → sound_leg 1 (quotes_of (record { bid = Some level; offer = offer; away_bid = x; away_offer = y })) ≡ true → sound_leg 1 (quotes_of (record { bid = level_left level n; offer = offer; away_bid = x; away_offer = y })) ≡ true
-take-keeps-bid level None x y n e h = grind (arith, nat_tests)
-take-keeps-bid level (Some k) x y n e h = grind (arith, nat_tests)
+take-keeps-bid : (level : Level) (offer : Option Level) (away : BySide (Option ℕ)) (n : ℕ) → may_take (level ∷ []) n ≡ true → sound_leg 1 (quotes_of (record { own = record { bid = Some level; offer = offer }; away = away })) ≡ true → sound_leg 1 (quotes_of (record { own = record { bid = level_left level n; offer = offer }; away = away })) ≡ true
+take-keeps-bid level None away n e h = grind (arith, nat_tests)
+take-keeps-bid level (Some k) away n e h = grind (arith, nat_tests)
 
-take-keeps-offer : (level : Level) (bid : Option Level) (x y : Option ℕ) (n : ℕ) → may_take (level ∷ []) n ≡ true → sound_leg 1 (quotes_of (record { bid = bid; offer = Some level; away_bid = x; away_offer = y })) ≡ true → sound_leg 1 (quotes_of (record { bid = bid; offer = level_left level n; away_bid = x; away_offer = y })) ≡ true
-take-keeps-offer level None x y n e h = grind (arith, nat_tests)
-take-keeps-offer level (Some k) x y n e h = grind (arith, nat_tests)
+take-keeps-offer : (level : Level) (bid : Option Level) (away : BySide (Option ℕ)) (n : ℕ) → may_take (level ∷ []) n ≡ true → sound_leg 1 (quotes_of (record { own = record { bid = bid; offer = Some level }; away = away })) ≡ true → sound_leg 1 (quotes_of (record { own = record { bid = bid; offer = level_left level n }; away = away })) ≡ true
+take-keeps-offer level None away n e h = grind (arith, nat_tests)
+take-keeps-offer level (Some k) away n e h = grind (arith, nat_tests)
 
-take-keeps-either : (own other : Option Level) (x y : Option ℕ) (n : ℕ) → may_take (list_of own) n ≡ true →
-    (sound_leg 1 (quotes_of (record { bid = own; offer = other; away_bid = x; away_offer = y })) ≡ true → sound_leg 1 (quotes_of (record { bid = own_left own n; offer = other; away_bid = x; away_offer = y })) ≡ true)
-    × (sound_leg 1 (quotes_of (record { bid = other; offer = own; away_bid = x; away_offer = y })) ≡ true → sound_leg 1 (quotes_of (record { bid = other; offer = own_left own n; away_bid = x; away_offer = y })) ≡ true)
-take-keeps-either None other x y n e = absurd (let z : ◌≡◌ {A = ℕ} 0 1 = cc in omega arith)
-take-keeps-either (Some level) other x y n e = (take-keeps-bid level other x y n e, take-keeps-offer level other x y n e)
+take-keeps-either : (own other : Option Level) (away : BySide (Option ℕ)) (n : ℕ) → may_take (list_of own) n ≡ true →
+    (sound_leg 1 (quotes_of (record { own = record { bid = own; offer = other }; away = away })) ≡ true → sound_leg 1 (quotes_of (record { own = record { bid = own_left own n; offer = other }; away = away })) ≡ true)
+    × (sound_leg 1 (quotes_of (record { own = record { bid = other; offer = own }; away = away })) ≡ true → sound_leg 1 (quotes_of (record { own = record { bid = other; offer = own_left own n }; away = away })) ≡ true)
+take-keeps-either None other away n e = absurd (cc)
+take-keeps-either (Some level) other away n e = (take-keeps-bid level other away n e, take-keeps-offer level other away n e)
 
 pub take-keeps : (top : LegTop) (side : Side) (n : ℕ) → may_take (list_of (own_of top side)) n ≡ true → sound_leg 1 (quotes_of top) ≡ true → sound_leg 1 (quotes_of (with_own top side (own_left (own_of top side) n))) ≡ true
-take-keeps top Buy n e h = (take-keeps-either top.bid top.offer top.away_bid top.away_offer n e).0 h
-take-keeps top Sell n e h = (take-keeps-either top.offer top.bid top.away_bid top.away_offer n e).1 h
+take-keeps top Buy n e h = (take-keeps-either top.own.bid top.own.offer top.away n e).0 h
+take-keeps top Sell n e h = (take-keeps-either top.own.offer top.own.bid top.away n e).1 h
 
 -- what is left of the level is what is left of the list
 left-listed : (some : Bool) (level : Level) → list_of (cond some (Some level) None) ≡ cond some (level ∷ []) []
@@ -68,9 +68,9 @@ set-own-keeps top Buy level e h =
     let new = level_given level in
     leg-whole 1 (quotes_of (with_own top Buy new))
     (record {
-      bids = side-whole 1 Buy (quotes_of (with_own top Buy new) Buy) (record { short = one-long new; levels = given-levels Buy level top.offer e; away = (side-parts 1 Buy (quotes_of top Buy) p.bids).away });
+      bids = side-whole 1 Buy (quotes_of (with_own top Buy new) Buy) (record { short = one-long new; levels = given-levels Buy level top.own.offer e; away = (side-parts 1 Buy (quotes_of top Buy) p.bids).away });
       offers = p.offers;
-      apart = given-bid-apart level top.offer e;
+      apart = given-bid-apart level top.own.offer e;
     })
 set-own-keeps top Sell level e h =
     let p = leg-parts 1 (quotes_of top) h in
@@ -78,8 +78,8 @@ set-own-keeps top Sell level e h =
     leg-whole 1 (quotes_of (with_own top Sell new))
     (record {
       bids = p.bids;
-      offers = side-whole 1 Sell (quotes_of (with_own top Sell new) Sell) (record { short = one-long new; levels = given-levels Sell level top.bid e; away = (side-parts 1 Sell (quotes_of top Sell) p.offers).away });
-      apart = given-offer-apart level top.bid e;
+      offers = side-whole 1 Sell (quotes_of (with_own top Sell new) Sell) (record { short = one-long new; levels = given-levels Sell level top.own.bid e; away = (side-parts 1 Sell (quotes_of top Sell) p.offers).away });
+      apart = given-offer-apart level top.own.bid e;
     })
 
 -- ---- a new away price
@@ -113,9 +113,3 @@ away-here top Sell price = refl
 pub away-there : (top : LegTop) (side : Side) (price : Option ℕ) → quotes_of (with_away top side price) (opposite side) ≡ quotes_of top (opposite side)
 away-there top Buy price = refl
 away-there top Sell price = refl
-
--- a list of at most one level has none at a later place
-pub no_second : (own : Option Level) (place : ℕ) → 0 < place → None ≡ slice_get (list_of own) place
-no_second None place h = refl
-no_second (Some level) zero h = absurd (omega arith)
-no_second (Some level) (suc place) h = refl

@@ -1,7 +1,6 @@
 -- What setting a quote does.
 --   shown_of        what a quote sheet of these legs shows
 --   sound_tops      each leg of the sheet is sound at depth 1
---   level_at        the level of this price and these contracts
 --   level_given, away_given       a level without contracts is none, and so is an away price of 0
 --   would_reach     an own level at this price would reach the best own level of the other side
 --   own_refusal     why an own level is refused, if it is (level_refusal, on a leg that the sheet has)
@@ -10,13 +9,12 @@
 --   away_set        the quotes after an away price was set: price 0 clears it
 --   own_put, away_put, take_put    the legs of a sheet after a level or a price was set, or contracts were taken
 --   own_left        what a take leaves of the only own level
---   answered        what a call answers: the refusal, or its value
---   unless_refused  what a call leaves: the old where it is refused, else the new
-use Rattle.std.specs.Prelude.{ℕ, Bool, true, false, cond, ◌&&◌, List, [], ◌∷◌, Some, None, Ok, Err, Option, Result, ◌==◌, nat_le, nat_lt, slice_index_or, slice_set}
+use Rattle.std.specs.Prelude.{ℕ, Bool, true, false, cond, ◌&&◌, List, [], ◌∷◌, Some, None, Option, ◌==◌, nat_le, nat_lt, slice_index_or, slice_set}
 use Rattle.terms.specs.declared.refusal.Refusal.{Refusal}
 use Rattle.terms.specs.declared.refusal.Refusal.TheVariants.{QuoteRange, QuoteCrosses}
 use Rattle.terms.specs.declared.side.Side.{Side}
 use Rattle.terms.specs.declared.side.Side.TheVariants.{Buy, Sell}
+use Rattle.terms.specs.Refusals.{unless_refused}
 use Rattle.terms.specs.Sides.{opposite}
 use Rattle.quotes.specs.declared.level.Level.{Level}
 use Rattle.quotes.specs.declared.top.LegTop.{LegTop}
@@ -32,25 +30,12 @@ abbrev pub sound_tops : List LegTop → Bool
 sound_tops [] = true
 sound_tops (top ∷ tops) = sound_leg 1 (quotes_of top) && sound_tops tops
 
--- ---- answers
-
-abbrev pub answered : {X : Type 0} → Option Refusal → X → Result X Refusal
-answered None value = Ok value
-answered (Some refusal) value = Err refusal
-
-abbrev pub unless_refused : {X : Type 0} → Option Refusal → X → X → X
-unless_refused None new old = new
-unless_refused (Some refusal) new old = old
-
 -- ---- own levels
 
 abbrev pub would_reach : Side → ℕ → List Level → Bool
 would_reach side price [] = false
 would_reach Buy price (offer ∷ offers) = nat_le offer.price price
 would_reach Sell price (bid ∷ bids) = nat_le price bid.price
-
-abbrev pub level_at : ℕ → ℕ → ℕ → Level
-level_at price customer other = record { price = price; customer = customer; other = other }
 
 -- none where there are no contracts
 abbrev pub level_given : Level → Option Level

@@ -8,37 +8,32 @@
 use Rattle.std.specs.Prelude.{ℕ, List, [], ◌∷◌, Some, None, Option}
 use Rattle.terms.specs.declared.side.Side.{Side}
 use Rattle.terms.specs.declared.side.Side.TheVariants.{Buy, Sell}
+use Rattle.terms.specs.Sides.{on_side, with_on}
 use Rattle.quotes.specs.declared.level.Level.{Level}
 use Rattle.quotes.specs.declared.top.LegTop.{LegTop}
 use Rattle.quotes.specs.Shown.{LegQuotes}
 use Rattle.quotes.specs.Takes.{best}
 
 abbrev pub no_top : LegTop
-no_top = record { bid = None; offer = None; away_bid = None; away_offer = None }
+no_top = record { own = record { bid = None; offer = None }; away = record { bid = None; offer = None } }
 
 abbrev pub own_of : LegTop → Side → Option Level
-own_of top Buy = top.bid
-own_of top Sell = top.offer
+own_of top side = on_side top.own side
 
 abbrev pub away_of : LegTop → Side → Option ℕ
-away_of top Buy = top.away_bid
-away_of top Sell = top.away_offer
+away_of top side = on_side top.away side
 
 abbrev pub with_own : LegTop → Side → Option Level → LegTop
-with_own top Buy level = record { bid = level; offer = top.offer; away_bid = top.away_bid; away_offer = top.away_offer }
-with_own top Sell level = record { bid = top.bid; offer = level; away_bid = top.away_bid; away_offer = top.away_offer }
+with_own top side level = record { own = with_on top.own side level; away = top.away }
 
 abbrev pub with_away : LegTop → Side → Option ℕ → LegTop
-with_away top Buy price = record { bid = top.bid; offer = top.offer; away_bid = price; away_offer = top.away_offer }
-with_away top Sell price = record { bid = top.bid; offer = top.offer; away_bid = top.away_bid; away_offer = price }
+with_away top side price = record { own = top.own; away = with_on top.away side price }
 
 abbrev pub top_of : LegQuotes → LegTop
 top_of q =
     record {
-      bid = best (q Buy).own;
-      offer = best (q Sell).own;
-      away_bid = (q Buy).away;
-      away_offer = (q Sell).away;
+      own = record { bid = best (q Buy).own; offer = best (q Sell).own };
+      away = record { bid = (q Buy).away; offer = (q Sell).away };
     }
 
 abbrev pub list_of : Option Level → List Level

@@ -1,7 +1,6 @@
 -- What a trial market shows, and what a take on it adds.
+--   Taken         the contracts taken on each side of a leg
 --   none_taken    nothing taken on either side of a leg
---   taken_on      the contracts taken on one side
---   with_taken    another total on one side
 --   taken_at      the contracts taken on one side of a leg by its number
 --   less_taken    the levels with that many contracts fewer, from the best on: a level with nothing left leaves
 --   tried         what a trial over these quotes shows, with that much taken on each leg
@@ -10,33 +9,28 @@
 --   Finds         such a level, or none where nothing is left
 use Rattle.std.specs.Prelude.{◌≡◌, ℕ, ◌+◌, ◌-◌, ◌<◌, ◌≤◌, cond, List, [], ◌∷◌, drop, Some, None, Option, nat_lt, slice_index_or, slice_set}
 use Rattle.terms.specs.declared.side.Side.{Side}
-use Rattle.terms.specs.declared.side.Side.TheVariants.{Buy, Sell}
+use Rattle.terms.specs.declared.side.BySide.{BySide}
+use Rattle.terms.specs.Sides.{on_side, with_on}
 use Rattle.quotes.specs.declared.level.Level.{Level}
-use Rattle.quotes.specs.declared.taken.Taken.{Taken}
 use Rattle.quotes.specs.declared.taken.Found.{Found}
 use Rattle.quotes.specs.Shown.{Shown, contracts}
 use Rattle.quotes.specs.Takes.{lessened, may_take}
 
 -- ---- what was taken
 
+abbrev pub Taken : Type 0
+Taken = BySide ℕ
+
 abbrev pub none_taken : Taken
-none_taken = record { bids = 0; offers = 0 }
-
-abbrev pub taken_on : Taken → Side → ℕ
-taken_on leg Buy = leg.bids
-taken_on leg Sell = leg.offers
-
-abbrev pub with_taken : Taken → Side → ℕ → Taken
-with_taken leg Buy contracts = record { bids = contracts; offers = leg.offers }
-with_taken leg Sell contracts = record { bids = leg.bids; offers = contracts }
+none_taken = record { bid = 0; offer = 0 }
 
 abbrev pub taken_at : List Taken → ℕ → Side → ℕ
-taken_at totals leg side = taken_on (slice_index_or totals leg none_taken) side
+taken_at totals leg side = on_side (slice_index_or totals leg none_taken) side
 
 abbrev pub taken_more : List Taken → ℕ → Side → List Level → ℕ → List Taken
 taken_more totals leg side levels quantity =
     cond (may_take levels quantity)
-    (slice_set totals leg (with_taken (slice_index_or totals leg none_taken) side (taken_at totals leg side + quantity)))
+    (slice_set totals leg (with_on (slice_index_or totals leg none_taken) side (taken_at totals leg side + quantity)))
     totals
 
 -- ---- what is left

@@ -40,22 +40,14 @@ impl Level {
     pub fn left(self, quantity: u32) -> Option<Level>
         ensures { result ≡ level_left self quantity }
     {
-        if quantity < self.customer {
-            let customer = self.customer - quantity;
-            return Some(Level {
-                price: self.price,
-                customer,
-                other: self.other,
-            });
-        }
-        let from_others = quantity - self.customer;
-        if from_others >= self.other {
+        let from_others = quantity.saturating_sub(self.customer);
+        if quantity >= self.customer && from_others >= self.other {
             return None;
         }
         Some(Level {
-            price: self.price,
-            customer: 0,
-            other: self.other - from_others,
+            customer: self.customer.saturating_sub(quantity),
+            other: self.other.saturating_sub(from_others),
+            ..self
         })
     }
 
@@ -63,30 +55,10 @@ impl Level {
     pub fn take(self, quantity: u32) -> Result<Option<Level>, Refusal>
         ensures { result ≡ level_taken self quantity }
     {
-        if quantity == 0 {
+        let from_others = quantity.saturating_sub(self.customer);
+        if quantity == 0 || from_others > self.other {
             return Err(Refusal::CannotTake);
         }
-        if quantity <= self.customer {
-            if quantity == self.customer && self.other == 0 {
-                return Ok(None);
-            }
-            return Ok(Some(Level {
-                price: self.price,
-                customer: self.customer - quantity,
-                other: self.other,
-            }));
-        }
-        let from_others = quantity - self.customer;
-        if from_others > self.other {
-            return Err(Refusal::CannotTake);
-        }
-        if from_others == self.other {
-            return Ok(None);
-        }
-        Ok(Some(Level {
-            price: self.price,
-            customer: 0,
-            other: self.other - from_others,
-        }))
+        Ok(self.left(quantity))
     }
 }

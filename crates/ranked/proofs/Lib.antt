@@ -1,4 +1,3 @@
-pub mod Fronts
 pub mod Leads
 pub mod Orders
 pub mod Places

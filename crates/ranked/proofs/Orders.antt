@@ -1,8 +1,9 @@
 -- What a list in rank order says of two places, and what keeps it in order.
-use Rattle.std.proofs.Common.{◌≡◌, ℕ, zero, suc, ◌<◌, ◌≤◌, Bool, true, false, List, [], ◌∷◌, length, get_or, set, Some, sym, refl, subst, ⊎_elim, arith}
+use Rattle.std.proofs.lemmas.Option.{slice_get_past}
+use Rattle.std.proofs.Common.{Option, ap, ◌∙◌, not, ◌≡◌, ℕ, zero, suc, ◌<◌, Bool, true, false, List, [], ◌∷◌, length, get_or, set, Some, sym, refl, subst, ⊎_elim, arith}
 use Rattle.std.specs.List.{slice_get, insert, remove}
-use Rattle.std.proofs.lemmas.List.{get_or_read}
-use Rattle.std.proofs.lemmas.Bool.{and_from, and_parts, not-true, not_from_false, cond_both, cases_eq}
+use Rattle.std.specs.List.Sorted.{IsPartitionedBy}
+use Rattle.std.proofs.lemmas.Bool.{cases_lt, and_from, and_parts, not-true, not_from_false, cond_both, cases_eq}
 use Rattle.ranked.specs.Order.{in_order, in_rank, place_for, place_given, may_set}
 use Rattle.ranked.proofs.Leads.{leads-not-before, leads-removed, leads-in-rank, leads-from-behind, leads-set}
 use Rattle.ranked.proofs.Places.{inserted-in-rank, place-from-given}
@@ -13,6 +14,13 @@ module _ {X : Type 0} (before : X → X → Bool) where
   in-order-not-before (x ∷ xs) up i zero d lt within = absurd (omega arith)
   in-order-not-before (x ∷ xs) up zero (suc j) d lt within = leads-not-before before x xs (and_parts _ _ up).0 j d (omega arith)
   in-order-not-before (x ∷ xs) up (suc i) (suc j) d lt within = in-order-not-before xs (and_parts _ _ up).1 i j d (omega arith) (omega arith)
+
+  pub may-set-within : (xs : List X) (i : ℕ) (y : X) → may_set before (slice_get xs i) y ≡ true → i < length xs
+  may-set-within xs i y may =
+      ⊎_elim
+      (λ lt. lt)
+      (λ le. let past : false ≡ true = sym (ap (λ (o : Option X). may_set before o y) (slice_get_past xs i le)) ∙ may in let no : ◌≡◌ {A = ℕ} 0 1 = cc in absurd (omega arith))
+      (cases_lt i (length xs))
 
   pub in-order-removed : (xs : List X) (i : ℕ) → in_order before xs ≡ true → in_order before (remove xs i) ≡ true
   in-order-removed [] zero up = refl
@@ -30,15 +38,13 @@ module _ {X : Type 0} (before : X → X → Bool) where
         let both = and_parts _ _ up in
         and_from _ _ (leads-set before chain x y xs i may both.0) (in-order-set xs i y may both.1)
 
-    -- what does not precede y, the record at m, precedes none ahead of it either
-    pub not-before-up-to : (x y : X) (xs : List X) (m : ℕ) → in_order before xs ≡ true → m < length xs → y ≡ get_or xs m y → before x y ≡ false
-        → (k : ℕ) (d : X) → k ≤ m → before x (get_or xs k d) ≡ false
-    not-before-up-to x y xs m up within read behind k d le =
-        let here : before x (get_or xs m d) ≡ false = subst (λ (z : X). before x z ≡ false) (get_or_read xs m y within read d) behind in
+    -- the records that x does not precede stand ahead of those that it does
+    pub parted-in-order : (x : X) (xs : List X) → in_order before xs ≡ true → IsPartitionedBy (λ y. not (before x y)) xs
+    parted-in-order x xs up i j d le within passed =
         ⊎_elim
-        (λ e. subst (λ (n : ℕ). before x (get_or xs n d) ≡ false) (sym e) here)
-        (λ apart. chain x (get_or xs m d) (get_or xs k d) here (in-order-not-before xs up k m d (omega arith) within))
-        (cases_eq k m)
+        (λ e. subst (λ (n : ℕ). not (before x (get_or xs n d)) ≡ true) (sym e) passed)
+        (λ apart. not_from_false _ (chain x (get_or xs j d) (get_or xs i d) (not-true _ passed) (in-order-not-before xs up i j d (omega arith) within)))
+        (cases_eq i j)
 
     module _ (oneway : (x y : X) → before x y ≡ true → before y x ≡ false) where
       pub in-order-in-rank : (x : X) (ys : List X) → in_order before ys ≡ true → in_order before (in_rank before x ys) ≡ true

@@ -1,61 +1,47 @@
 -- What a list holds once some of its records moved by one place.
-use Rattle.std.proofs.Common.{◌≡◌, ℕ, suc, ◌+◌, ◌-◌, ◌<◌, ◌≤◌, ◌≢◌, ◌⊎◌, List, ◌++◌, length, get_or, take, set, sym, ap, ◌∙◌, subst, inl, inr, ⊎_elim, arith}
-use Rattle.std.specs.List.{insert, remove}
-use Rattle.std.proofs.lemmas.List.{same_lists, get_or-take, get_or-set_same, get_or-set_other, length-set, length-take-le, take_all, drop_all, append-nil}
-use Rattle.std.proofs.lemmas.List.Edits.{length-insert, get_or-insert_below, get_or-insert_at, get_or-insert_above, length-remove, get_or-remove_below, get_or-remove_above}
-use Rattle.std.proofs.lemmas.Bool.{cases_order, cases_lt}
+use Rattle.std.proofs.Common.{◌≡◌, ℕ, suc, ◌+◌, ◌-◌, ◌<◌, ◌≤◌, List, [], ◌++◌, ◌∷◌, length, take, drop, set, sym, ap, ◌∙◌, arith}
+use Rattle.std.specs.List.{insert, remove, copy_within}
+use Rattle.std.proofs.Math.Seq.{paste, take-set-lt, append_snoc}
+use Rattle.std.proofs.lemmas.List.{take-take, drop-take, length-take-le, length-drop, set-append_left, take_more_set}
+use Rattle.std.proofs.lemmas.List.Edits.{take-paste}
 
 module _ {X : Type 0} where
-  get_or-inserted : (xs : List X) (i : ℕ) (x d : X) (k : ℕ) → i ≤ length xs
-      → ((k < i) × (get_or (insert xs i x) k d ≡ get_or xs k d)) ⊎ (((k ≡ i) × (get_or (insert xs i x) k d ≡ x)) ⊎ ((i < k) × (get_or (insert xs i x) k d ≡ get_or xs (k - 1) d)))
-  get_or-inserted xs i x d k le =
-      ⊎_elim
-      (λ e. inr (inl (e, subst (λ (n : ℕ). get_or (insert xs i x) n d ≡ x) (sym e) (get_or-insert_at xs i x d le))))
-      (⊎_elim
-      (λ l. inl (l, get_or-insert_below xs i x d k l le))
-      (λ l. inr (inr (l, subst (λ (n : ℕ). get_or (insert xs i x) n d ≡ get_or xs (k - 1) d) {x = k - 1 + 1} {y = k} (omega arith) (get_or-insert_above xs i x d (k - 1) (omega arith) le)))))
-      (cases_order k i)
+  -- m records from i on one place further on, and x at i
+  inserted-by : (xs : List X) (i m : ℕ) (x : X) → i + m < length xs → take (i + 1 + m) (set (paste xs (i + 1) (drop i xs) m) i x) ≡ insert (take (i + m) xs) i x
+  inserted-by xs i m x within =
+      let ys = paste xs (i + 1) (drop i xs) m in
+      let low = take (i + 1) xs in
+      let high = take m (drop i xs) in
+      let long : length low ≡ i + 1 = length-take-le (i + 1) xs (omega arith) in
+      let enough : length (drop i xs) ≡ length xs - i = length-drop i xs in
+      let put : set low i x ≡ take i xs ++ x ∷ [] = sym (take-set-lt (i + 1) xs i x (omega arith)) ∙ take_more_set xs i x (omega arith) in
+      take-set-lt (i + 1 + m) ys i x (omega arith)
+      ∙ ap (λ (l : List X). set l i x) (take-paste xs (i + 1) (drop i xs) m (omega arith) (omega arith))
+      ∙ set-append_left low high i x (omega arith)
+      ∙ ap (λ (l : List X). l ++ high) put
+      ∙ append_snoc (take i xs) x high
+      ∙ ap (λ (l : List X). l ++ x ∷ high) (sym (take-take i (i + m) xs (omega arith)))
+      ∙ ap (λ (l : List X). take i (take (i + m) xs) ++ x ∷ l) (sym (drop-take i m xs))
 
-  get_or-removed : (xs : List X) (i : ℕ) (d : X) (k : ℕ) → i < length xs
-      → ((k < i) × (get_or (remove xs i) k d ≡ get_or xs k d)) ⊎ ((i ≤ k) × (get_or (remove xs i) k d ≡ get_or xs (k + 1) d))
-  get_or-removed xs i d k l = ⊎_elim (λ b. inl (b, get_or-remove_below xs i d k b l)) (λ b. inr (b, get_or-remove_above xs i d k b l)) (cases_lt k i)
+  -- the records from i up to n one place further on, and x at i
+  pub inserted-from-moved-on : (xs : List X) (i n : ℕ) (x : X) → i ≤ n → n < length xs → take (n + 1) (set (copy_within xs i n (i + 1)) i x) ≡ insert (take n xs) i x
+  inserted-from-moved-on xs i n x a b =
+      ap (λ k. take k (set (copy_within xs i n (i + 1)) i x)) {x = n + 1} {y = i + 1 + (n - i)} (omega arith)
+      ∙ inserted-by xs i (n - i) x (omega arith)
+      ∙ ap (λ k. insert (take k xs) i x) {x = i + (n - i)} {y = n} (omega arith)
 
-  -- ys is xs with the records from i up to n one place further on
-  pub inserted-from-moved-on : (xs ys : List X) (i n : ℕ) (x : X) → i ≤ n → n < length xs → length ys ≡ length xs
-      → ((j : ℕ) (d : X) → j < i → get_or ys j d ≡ get_or xs j d)
-      → ((j : ℕ) (d : X) → i ≤ j → j < n → get_or ys (j + 1) d ≡ get_or xs j d)
-      → take (n + 1) (set ys i x) ≡ insert (take n xs) i x
-  inserted-from-moved-on xs ys i n x a b same low high =
-      let le : length (take n xs) ≡ n = length-take-le n xs (omega arith) in
-      let ls : length (take (n + 1) (set ys i x)) ≡ n + 1 = length-take-le (n + 1) (set ys i x) (omega (arith, length-set ys i x)) in
-      let li : length (insert (take n xs) i x) ≡ n + 1 = length-insert (take n xs) i x (omega arith) ∙ ap (λ m. m + 1) le in
-      same_lists _ _ (ls ∙ sym li) (λ k d h.
-      get_or-take (n + 1) (set ys i x) k d (omega arith) ∙
-      ⊎_elim
-      (λ p. let ne : k ≢ i = omega (arith, p.0) in get_or-set_other ys i k x d ne ∙ low k d p.0 ∙ sym (get_or-take n xs k d (omega (arith, p.0))) ∙ sym p.1)
-      (⊎_elim
-      (λ p. subst (λ (m : ℕ). get_or (set ys i x) m d ≡ x) (sym p.0) (get_or-set_same ys i x d (omega arith)) ∙ sym p.1)
-      (λ p. let ne : k ≢ i = omega (arith, p.0) in
-      get_or-set_other ys i k x d ne
-      ∙ subst (λ (m : ℕ). get_or ys m d ≡ get_or xs (k - 1) d) {x = k - 1 + 1} {y = k} (omega (arith, p.0)) (high (k - 1) d (omega (arith, p.0)) (omega (arith, p.0)))
-      ∙ sym (get_or-take n xs (k - 1) d (omega (arith, p.0))) ∙ sym p.1))
-      (get_or-inserted (take n xs) i x d k (omega arith)))
+  -- m records behind i one place nearer
+  removed-by : (xs : List X) (i m : ℕ) → suc i + m ≤ length xs → take (i + m) (paste xs i (drop (suc i) xs) m) ≡ remove (take (suc i + m) xs) i
+  removed-by xs i m within =
+      let enough : length (drop (suc i) xs) ≡ length xs - suc i = length-drop (suc i) xs in
+      take-paste xs i (drop (suc i) xs) m (omega arith) (omega arith)
+      ∙ ap (λ (l : List X). l ++ take m (drop (suc i) xs)) (sym (take-take i (suc i + m) xs (omega arith)))
+      ∙ ap (λ (l : List X). take i (take (suc i + m) xs) ++ l) (sym (drop-take (suc i) m xs))
 
-  -- ys is xs with the records behind i up to n one place nearer
-  pub removed-from-moved-up : (xs ys : List X) (i n : ℕ) → i < n → n ≤ length xs → length ys ≡ length xs
-      → ((j : ℕ) (d : X) → j < i → get_or ys j d ≡ get_or xs j d)
-      → ((j : ℕ) (d : X) → i ≤ j → j + 1 < n → get_or ys j d ≡ get_or xs (j + 1) d)
-      → take (n - 1) ys ≡ remove (take n xs) i
-  removed-from-moved-up xs ys i n a b same low high =
-      let le : length (take n xs) ≡ n = length-take-le n xs b in
-      let ls : length (take (n - 1) ys) ≡ n - 1 = length-take-le (n - 1) ys (omega arith) in
-      let lr : length (remove (take n xs) i) ≡ n - 1 = omega (arith, length-remove (take n xs) i (omega arith)) in
-      same_lists _ _ (ls ∙ sym lr) (λ k d h.
-      get_or-take (n - 1) ys k d (omega arith) ∙
-      ⊎_elim
-      (λ p. low k d p.0 ∙ sym (get_or-take n xs k d (omega (arith, p.0))) ∙ sym p.1)
-      (λ p. high k d p.0 (omega (arith, p.0)) ∙ sym (get_or-take n xs (k + 1) d (omega (arith, p.0))) ∙ sym p.1)
-      (get_or-removed (take n xs) i d k (omega arith)))
-
-  pub removed-past : (xs : List X) (i : ℕ) → length xs ≤ i → remove xs i ≡ xs
-  removed-past xs i le = (λ k. take_all i xs le k ++ drop_all (suc i) xs (omega arith) k) ∙ append-nil xs
+  -- the records behind i up to n one place nearer
+  pub removed-from-moved-up : (xs : List X) (i n : ℕ) → i < n → n ≤ length xs → take (n - 1) (copy_within xs (i + 1) n i) ≡ remove (take n xs) i
+  removed-from-moved-up xs i n a b =
+      ap (λ k. take (n - 1) (paste xs i (drop k xs) (n - k))) {x = i + 1} {y = suc i} (omega arith)
+      ∙ ap (λ k. take k (paste xs i (drop (suc i) xs) (n - suc i))) {x = n - 1} {y = i + (n - suc i)} (omega arith)
+      ∙ removed-by xs i (n - suc i) (omega arith)
+      ∙ ap (λ k. remove (take k xs) i) {x = suc i + (n - suc i)} {y = n} (omega arith)

@@ -1,7 +1,8 @@
 //! What it takes to stand in a ranked list.
 ghost use Rattle.std.specs.Prelude.{◌≡◌, ℕ, Bool, true, false};
 
-// A record with a rank and a number. Two records of the same rank may stand in either order.
+// A record with a rank and a number. Two records of the same rank may stand in either order; they need not be equal, so this
+// is no `Ord`.
 pub trait Rank: Sized {
     ghost before: { Self → Self → Bool };
 

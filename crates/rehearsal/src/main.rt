@@ -2,7 +2,6 @@
 #![tactic(auto)]
 
 use depth_book::book::DepthBook;
-use depth_book::memory::OrderMemory;
 use leg_orders::order::LegOrder;
 use market::leg_market::{LegMarket, MarketView};
 use market::reader::MarketReader;
@@ -10,51 +9,36 @@ use market::trial::Trial;
 use quotes::taken::Taken;
 use std::io;
 use terms::refusal::Refusal;
-use terms::side::Side;
+use terms::side::LegSide;
+use terms::strategy::MAX_LEGS;
 
-fn quote_name(side: Side) -> &'static str {
-    match side {
-        Side::Buy => "bid",
-        Side::Sell => "offer",
-    }
-}
-
+// Whose an order is: a customer's or not, as the rules put it, where `bool` would be written as true or false.
 fn owner_name(customer: bool) -> &'static str {
     if customer { "customer" } else { "other" }
 }
 
-fn show_side<M: MarketView>(
-    rt: &HostRuntime,
-    market: &M,
-    leg: usize,
-    side: Side,
-) -> io::Result<()> {
-    let name = quote_name(side);
-    let mut levels: usize = 0;
-    for place in 0..M::max_levels() {
-        let Some(level) = market.level(leg, side, place) else {
-            break;
-        };
-        let price = level.price;
-        let customer = level.customer;
-        let other = level.other;
-        println!(rt; "    leg {leg} {name} {price}: {customer} customer, {other} other")?;
-        levels = levels.saturating_add(1);
+fn show_side<M: MarketView>(rt: &HostRuntime, market: &M, at: LegSide) -> io::Result<()> {
+    if market.level(at, 0).is_none() {
+        println!(rt; "    {at}: none")?;
     }
-    if levels == 0 {
-        println!(rt; "    leg {leg} {name}: none")?;
+    for level in (0..M::max_levels()).map_while(|place| market.level(at, place)) {
+        println!(rt;
+            "    {at} {}: {} customer, {} other",
+            level.price, level.customer, level.other
+        )?;
     }
-    match market.away(leg, side) {
-        Some(price) => println!(rt; "    leg {leg} {name} away {price}"),
+    match market.away(at) {
+        Some(price) => println!(rt; "    {at} away {price}"),
         None => Ok(()),
     }
 }
 
 fn show_levels<M: MarketView>(rt: &HostRuntime, title: &str, market: &M) -> io::Result<()> {
     println!(rt; "  {title}")?;
+    // the two legs that are quoted here
     for leg in 0..2 {
-        show_side(rt, market, leg, Side::Buy)?;
-        show_side(rt, market, leg, Side::Sell)?;
+        show_side(rt, market, LegSide::bid(leg))?;
+        show_side(rt, market, LegSide::offer(leg))?;
     }
     Ok(())
 }
@@ -62,44 +46,37 @@ fn show_levels<M: MarketView>(rt: &HostRuntime, title: &str, market: &M) -> io::
 fn show_orders(rt: &HostRuntime, title: &str, orders: &[LegOrder]) -> io::Result<()> {
     println!(rt; "  {title}")?;
     for order in orders {
-        let number = order.number;
-        let leg = order.leg;
-        let name = quote_name(order.side);
-        let price = order.price;
-        let contracts = order.contracts;
-        let owner = owner_name(order.customer);
-        println!(rt; "    order {number}: leg {leg} {name} {price}, {contracts} {owner}")?;
+        println!(rt;
+            "    order {}: {} {}, {} {}",
+            order.number,
+            order.at,
+            order.price,
+            order.contracts,
+            owner_name(order.customer)
+        )?;
     }
     Ok(())
-}
-
-fn show_refusal(rt: &HostRuntime, refusal: Refusal) -> io::Result<()> {
-    let number = refusal.number();
-    println!(rt; " refused with {number}")
 }
 
 fn show_done(rt: &HostRuntime, answer: Result<(), Refusal>) -> io::Result<()> {
     match answer {
         Ok(()) => println!(rt; " done"),
-        Err(refusal) => show_refusal(rt, refusal),
+        Err(refusal) => println!(rt; " {refusal}"),
     }
 }
 
 fn add(
     rt: &HostRuntime,
     book: &mut DepthBook<'_>,
-    leg: usize,
-    side: Side,
+    at: LegSide,
     price: u32,
     contracts: u32,
     customer: bool,
 ) -> io::Result<()> {
-    let name = quote_name(side);
-    let owner = owner_name(customer);
-    print!(rt; "  add leg {leg} {name} {price}, {contracts} {owner}:")?;
-    match book.add(leg, side, price, contracts, customer) {
+    print!(rt; "  add {at} {price}, {contracts} {}:", owner_name(customer))?;
+    match book.add(at, price, contracts, customer) {
         Ok(number) => println!(rt; " order {number}"),
-        Err(refusal) => show_refusal(rt, refusal),
+        Err(refusal) => println!(rt; " {refusal}"),
     }
 }
 
@@ -111,53 +88,55 @@ fn withdraw(rt: &HostRuntime, book: &mut DepthBook<'_>, number: u32) -> io::Resu
 fn take<M: LegMarket>(
     rt: &HostRuntime,
     market: &mut M,
-    leg: usize,
-    side: Side,
+    at: LegSide,
     quantity: u32,
 ) -> io::Result<()> {
-    let name = quote_name(side);
-    print!(rt; "  take {quantity} from leg {leg} {name}:")?;
-    show_done(rt, market.take(leg, side, quantity))
+    print!(rt; "  take {quantity} from {at}:")?;
+    show_done(rt, market.take(at, quantity))
 }
 
 // The same takes in a trial and for real.
 fn takes<M: LegMarket>(rt: &HostRuntime, market: &mut M) -> io::Result<()> {
-    take(rt, market, 0, Side::Sell, 3)?;
-    take(rt, market, 0, Side::Sell, 5)?;
-    take(rt, market, 0, Side::Sell, 4)?;
-    take(rt, market, 0, Side::Sell, 1)?;
-    take(rt, market, 1, Side::Buy, 6)
+    take(rt, market, LegSide::offer(0), 3)?;
+    take(rt, market, LegSide::offer(0), 5)?;
+    take(rt, market, LegSide::offer(0), 4)?;
+    take(rt, market, LegSide::offer(0), 1)?;
+    take(rt, market, LegSide::bid(1), 6)
 }
 
 fn fill(rt: &HostRuntime, book: &mut DepthBook<'_>) -> io::Result<()> {
-    add(rt, book, 0, Side::Sell, 312, 4, false)?;
-    add(rt, book, 0, Side::Sell, 310, 5, false)?;
-    add(rt, book, 0, Side::Sell, 310, 1, true)?;
-    add(rt, book, 0, Side::Buy, 300, 9, false)?;
-    add(rt, book, 0, Side::Sell, 310, 1, true)?;
-    add(rt, book, 1, Side::Buy, 100, 6, false)?;
-    add(rt, book, 1, Side::Buy, 99, 2, true)?;
+    add(rt, book, LegSide::offer(0), 312, 4, false)?;
+    add(rt, book, LegSide::offer(0), 310, 5, false)?;
+    add(rt, book, LegSide::offer(0), 310, 1, true)?;
+    add(rt, book, LegSide::bid(0), 300, 9, false)?;
+    add(rt, book, LegSide::offer(0), 310, 1, true)?;
+    add(rt, book, LegSide::bid(1), 100, 6, false)?;
+    add(rt, book, LegSide::bid(1), 99, 2, true)?;
     print!(rt; "  set leg 1 offer away 104:")?;
-    show_done(rt, book.set_away(1, Side::Sell, 104))
+    show_done(rt, book.set_away(LegSide::offer(1), 104))
 }
 
 fn refused(rt: &HostRuntime, book: &mut DepthBook<'_>) -> io::Result<()> {
-    add(rt, book, 6, Side::Buy, 100, 1, false)?;
-    add(rt, book, 0, Side::Buy, 310, 1, false)?;
-    add(rt, book, 0, Side::Sell, 310, 9_999_994, false)?;
-    add(rt, book, 1, Side::Buy, 98, 1, false)?;
-    add(rt, book, 1, Side::Buy, 97, 1, false)?;
+    add(rt, book, LegSide::bid(6), 100, 1, false)?;
+    add(rt, book, LegSide::bid(0), 310, 1, false)?;
+    add(rt, book, LegSide::offer(0), 310, 9_999_994, false)?;
+    add(rt, book, LegSide::bid(1), 98, 1, false)?;
+    add(rt, book, LegSide::bid(1), 97, 1, false)?;
     withdraw(rt, book, 9)
 }
 
-fn rehearse(rt: &HostRuntime, book: &DepthBook<'_>) -> io::Result<[Taken; 6]> {
+fn rehearse(rt: &HostRuntime, book: &DepthBook<'_>) -> io::Result<[Taken; MAX_LEGS]> {
     let mut trial = Trial::new(MarketReader::new(book));
     takes(rt, &mut trial)?;
     show_levels(rt, "the trial shows", &trial)?;
     Ok(trial.totals())
 }
 
-fn rehearse_on(rt: &HostRuntime, book: &DepthBook<'_>, totals: [Taken; 6]) -> io::Result<()> {
+fn rehearse_on(
+    rt: &HostRuntime,
+    book: &DepthBook<'_>,
+    totals: [Taken; MAX_LEGS],
+) -> io::Result<()> {
     let trial = Trial::resume(MarketReader::new(book), totals);
     show_levels(rt, "the trial, resumed, shows", &trial)
 }
@@ -184,18 +163,17 @@ fn play(rt: &HostRuntime, book: &mut DepthBook<'_>) -> io::Result<()> {
 fn main(rt: HostRuntime) -> io::Result<()> {
     let mut many = [LegOrder::blank(); 513];
     print!(&rt; "Memory for 513 orders:")?;
-    match OrderMemory::lend(&mut many) {
+    match DepthBook::lend(&mut many) {
         Ok(_) => println!(&rt; " lent")?,
-        Err(refusal) => show_refusal(&rt, refusal)?,
+        Err(refusal) => println!(&rt; " {refusal}")?,
     }
     let mut slots = [LegOrder::blank(); 8];
     print!(&rt; "Memory for 8 orders:")?;
-    match OrderMemory::lend(&mut slots) {
-        Ok(memory) => {
+    match DepthBook::lend(&mut slots) {
+        Ok(mut book) => {
             println!(&rt; " lent")?;
-            let mut book = DepthBook::new(memory);
             play(&rt, &mut book)
         }
-        Err(refusal) => show_refusal(&rt, refusal),
+        Err(refusal) => println!(&rt; " {refusal}"),
     }
 }

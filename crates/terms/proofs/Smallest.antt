@@ -1,5 +1,5 @@
 -- The smallest ratio: it is the ratio of a leg, and no ratio is below it.
-use Rattle.std.proofs.Common.{◌≡◌, ℕ, suc, ◌<◌, ◌≤◌, true, List, [], ◌∷◌, length, get_or, inl, inr, arith}
+use Rattle.std.proofs.Common.{◌≡◌, ℕ, suc, ◌<◌, ◌≤◌, min, fold, ◌∙◌, true, List, [], ◌∷◌, length, get_or, inl, inr, arith}
 use Rattle.std.specs.List.{AllByRecursion}
 use Rattle.std.proofs.lemmas.Bool.{cases_lt}
 use Rattle.terms.specs.declared.leg.Leg.{Leg}
@@ -9,6 +9,10 @@ use Rattle.terms.proofs.SoundLegs.{sound-count, sound-range}
 pub smallest-under-100 : (legs : List Leg) → smallest_ratio legs ≤ 100
 smallest-under-100 [] = omega arith
 smallest-under-100 (leg ∷ legs) = omega (arith, smallest-under-100 legs)
+
+pub fold-smallest : (n : ℕ) (legs : List Leg) → n ≤ 100 → fold (λ least leg. min least leg.ratio) n legs ≡ min n (smallest_ratio legs)
+fold-smallest n [] most = omega arith
+fold-smallest n (leg ∷ legs) most = fold-smallest (min n leg.ratio) legs (omega arith) ∙ omega arith
 
 under_all : (r : ℕ) (legs : List Leg) → r ≤ smallest_ratio legs → AllByRecursion (λ leg. r ≤ leg.ratio) legs
 under_all r [] h = tt

@@ -8,8 +8,8 @@
 --   smallest_ratio          the smallest ratio
 --   every_eco_complex_only  whether every order in these legs counts as Complex Only
 -- A word in small letters is the same as a test that can be computed; MadeExactlyOf says that they agree.
-use Rattle.std.specs.Prelude.{◌≡◌, ℕ, zero, suc, ◌%◌, ◌<◌, ◌≤◌, min, Bool, true, false, cond, not, ◌&&◌, ◌||◌, List, [], ◌∷◌, length, Some, None, Ok, Err, Option, Result, ◌==◌, nat_le, slice_index_or}
-use Rattle.std.specs.List.{AllByRecursion}
+use Rattle.std.specs.Prelude.{◌≡◌, ℕ, zero, suc, ◌%◌, ◌<◌, ◌≤◌, min, Bool, true, false, cond, not, ◌&&◌, ◌||◌, List, [], ◌∷◌, length, Some, None, Option, Result, ◌==◌, nat_le, slice_index_or}
+use Rattle.std.specs.List.{AllByRecursion, list_all}
 use Rattle.terms.specs.declared.leg.Leg.{Leg}
 use Rattle.terms.specs.declared.leg.OptionKind.{OptionKind}
 use Rattle.terms.specs.declared.leg.OptionKind.TheVariants.{Call, Put}
@@ -17,6 +17,7 @@ use Rattle.terms.specs.declared.side.Side.{Side}
 use Rattle.terms.specs.declared.side.Side.TheVariants.{Buy, Sell}
 use Rattle.terms.specs.declared.refusal.Refusal.{Refusal}
 use Rattle.terms.specs.declared.refusal.Refusal.TheVariants.{LegCount, Ratios}
+use Rattle.terms.specs.Refusals.{answered}
 use Rattle.terms.specs.Sides.{same_side}
 
 -- ---- the rule in words
@@ -44,12 +45,10 @@ abbrev pub leg_count_fits : List Leg → Bool
 leg_count_fits legs = nat_le 2 (length legs) && nat_le (length legs) 6
 
 abbrev pub ratios_in_range : List Leg → Bool
-ratios_in_range [] = true
-ratios_in_range (leg ∷ legs) = (nat_le 1 leg.ratio && nat_le leg.ratio 100) && ratios_in_range legs
+ratios_in_range legs = list_all (λ leg. nat_le 1 leg.ratio && nat_le leg.ratio 100) legs
 
 abbrev pub divides_all : ℕ → List Leg → Bool
-divides_all d [] = true
-divides_all d (leg ∷ legs) = leg.ratio % d == 0 && divides_all d legs
+divides_all d legs = list_all (λ leg. leg.ratio % d == 0) legs
 
 -- one of 2 to n divides all ratios
 abbrev pub common_factor : ℕ → List Leg → Bool
@@ -72,12 +71,8 @@ pub record MadeExactlyOf (legs : List Leg) (made : Bool) : Type 0 where
 abbrev pub legs_refusal : List Leg → Option Refusal
 legs_refusal legs = cond (leg_count_fits legs) (cond (ratios_fit legs) None (Some Ratios)) (Some LegCount)
 
-abbrev pub or_refused : Option Refusal → List Leg → Result (List Leg) Refusal
-or_refused None legs = Ok legs
-or_refused (Some refusal) legs = Err refusal
-
 abbrev pub strategy_answer : List Leg → Result (List Leg) Refusal
-strategy_answer legs = or_refused (legs_refusal legs) legs
+strategy_answer legs = answered (legs_refusal legs) legs
 
 -- ---- reading a strategy
 
@@ -98,12 +93,10 @@ same_kind Put Call = false
 same_kind Put Put = true
 
 abbrev pub all_on_side : Side → List Leg → Bool
-all_on_side side [] = true
-all_on_side side (leg ∷ legs) = same_side leg.side side && all_on_side side legs
+all_on_side side legs = list_all (λ leg. same_side leg.side side) legs
 
 abbrev pub all_of_kind : OptionKind → List Leg → Bool
-all_of_kind kind [] = true
-all_of_kind kind (leg ∷ legs) = same_kind leg.kind kind && all_of_kind kind legs
+all_of_kind kind legs = list_all (λ leg. same_kind leg.kind kind) legs
 
 abbrev pub on_one_side : List Leg → Bool
 on_one_side legs = all_on_side Buy legs || all_on_side Sell legs

@@ -1,47 +1,45 @@
 //! Refusals.
-ghost use Rattle.std.specs.Prelude.{◌≡◌};
-ghost use Rattle.terms.specs.Refusals.{refusal_number};
+ghost use Rattle.std.specs.Prelude.{◌≡◌, Some};
+ghost use Rattle.terms.specs.Refusals.{refusal_number, refusal_text};
 
-// Why a call is refused. docs/RULES.md has the table of rows; `number` gives the row's number.
+use std::error::Error;
+use std::fmt;
+
+// Why a call is refused, with the number of its row in the table of docs/RULES.md.
 #[derive(Clone, Copy, PartialEq, Eq, Debug)]
 pub enum Refusal {
-    LegCount,
-    Ratios,
-    LentMemory,
-    SessionState,
-    LimitOrSize,
-    NotStanding,
-    TapeRoom,
-    OrderRoom,
-    CannotOpen,
-    WrongSlip,
-    QuoteRange,
-    QuoteCrosses,
-    BookRoom,
-    NoLegOrder,
-    CannotTake,
+    LegCount = 1,
+    Ratios = 2,
+    LentMemory = 3,
+    SessionState = 4,
+    LimitOrSize = 5,
+    NotStanding = 6,
+    TapeRoom = 7,
+    OrderRoom = 8,
+    CannotOpen = 9,
+    WrongSlip = 10,
+    QuoteRange = 11,
+    QuoteCrosses = 12,
+    BookRoom = 13,
+    NoLegOrder = 14,
+    CannotTake = 15,
 }
 
 impl Refusal {
     pub fn number(self) -> u8
         ensures { result ≡ refusal_number self }
     {
-        match self {
-            Refusal::LegCount => 1,
-            Refusal::Ratios => 2,
-            Refusal::LentMemory => 3,
-            Refusal::SessionState => 4,
-            Refusal::LimitOrSize => 5,
-            Refusal::NotStanding => 6,
-            Refusal::TapeRoom => 7,
-            Refusal::OrderRoom => 8,
-            Refusal::CannotOpen => 9,
-            Refusal::WrongSlip => 10,
-            Refusal::QuoteRange => 11,
-            Refusal::QuoteCrosses => 12,
-            Refusal::BookRoom => 13,
-            Refusal::NoLegOrder => 14,
-            Refusal::CannotTake => 15,
-        }
+        self as u8
     }
 }
+
+impl fmt::Display for Refusal {
+    ghost output = { λ refusal. Some (refusal_text refusal) };
+
+    fn fmt<W: fmt::Write>(&self, f: &mut fmt::Formatter<W>) -> fmt::Result {
+        let number = self.number();
+        write!(f, "refused with {number}")
+    }
+}
+
+impl Error for Refusal {}

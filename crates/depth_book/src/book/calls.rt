@@ -1,42 +1,44 @@
 //! The calls of a depth book.
-ghost use Rattle.std.specs.Prelude.{◌≡◌, ℕ, true, []};
+ghost use Rattle.std.specs.Prelude.{◌≡◌, ℕ, true};
 ghost use Rattle.terms.specs.declared.side.Side.{Side};
-ghost use Rattle.quotes.specs.Shown.{nothing};
-ghost use Rattle.quotes.specs.Sheets.{answered, away_refusal, away_set};
+ghost use Rattle.terms.specs.Refusals.{answered};
+ghost use Rattle.quotes.specs.Sheets.{away_refusal, away_set};
 ghost use Rattle.ranked.specs.Items.{room};
 ghost use Rattle.ranked.specs.Order.{in_order};
 ghost use Rattle.leg_orders.specs.Ranks.{leg_before};
 ghost use Rattle.leg_orders.specs.Books.{fine_orders, numbers_kept};
 ghost use Rattle.leg_orders.specs.Leaves.{order_numbered, withdraw_refusal, without, left_if};
 ghost use Rattle.leg_orders.specs.Sums.{customers_at, others_at, customers_ordered, others_ordered};
+ghost use Rattle.depth_book.specs.Memories.{Lent};
 ghost use Rattle.depth_book.specs.Books.{standing, shows, next_order, add_answer, orders_added, last_added, quotes_added};
 
-use super::super::away_table::{LEGS, put_away};
-use super::super::memory::OrderMemory;
-use super::super::scan::is_crowded;
+use super::super::away_table::put_away;
 use super::DepthBook;
-use leg_orders::away_prices::AwayPrices;
 use leg_orders::order::LegOrder;
-use market::leg_market::MarketView;
-use quotes::top::would_reach;
+use ranked::list::Ranked;
 use terms::refusal::Refusal;
-use terms::side::Side;
+use terms::side::{BySide, LegSide};
+use terms::strategy::MAX_LEGS;
+
+// The most leg orders that stand in one book.
+const MAX_ORDERS: usize = 512;
 
 impl<'a> DepthBook<'a> {
-    // An empty book over the memory.
-    pub fn new(memory: OrderMemory<'a>) -> DepthBook<'a>
-        ensures orders { standing result ≡ [] }
-        ensures quotes { (l : ℕ) (s : Side) → shows result l s ≡ nothing }
-        ensures room { room result.orders ≡ room memory.entry.orders }
-        ensures added { result.added ≡ 0 }
+    // An empty book over the memory, which has room for 1 to 512 orders.
+    pub fn lend(slots: &'a mut [LegOrder]) -> Result<DepthBook<'a>, Refusal>
+        ensures { Lent slots.old result }
     {
-        let mut orders = memory.orders;
-        orders.clear();
-        DepthBook {
-            orders,
-            away: [AwayPrices::none(); 6],
-            added: 0,
+        if slots.len() < 1 {
+            return Err(Refusal::LentMemory);
         }
+        if slots.len() > MAX_ORDERS {
+            return Err(Refusal::LentMemory);
+        }
+        Ok(DepthBook {
+            orders: Ranked::new(slots),
+            away: [BySide::default(); MAX_LEGS],
+            added: 0,
+        })
     }
 }
 
@@ -67,29 +69,25 @@ impl DepthBook<'_> {
     // Adds a leg order and answers its number.
     pub fn add(
         &mut self,
-        leg: usize,
-        side: Side,
+        at: LegSide,
         price: u32,
         contracts: u32,
         customer: bool,
     ) -> Result<u32, Refusal>
-        ensures answer { result ≡ add_answer self.old (next_order self.old leg side price contracts customer) }
-        ensures orders { standing self.new ≡ orders_added self.old (next_order self.old leg side price contracts customer) }
-        ensures added { self.new.added ≡ last_added self.old (next_order self.old leg side price contracts customer) }
-        ensures quotes { (l : ℕ) (s : Side) → shows self.new l s ≡ quotes_added self.old (next_order self.old leg side price contracts customer) l s }
+        ensures answer { result ≡ add_answer self.old (next_order self.old at.leg at.side price contracts customer) }
+        ensures orders { standing self.new ≡ orders_added self.old (next_order self.old at.leg at.side price contracts customer) }
+        ensures added { self.new.added ≡ last_added self.old (next_order self.old at.leg at.side price contracts customer) }
+        ensures quotes { (l : ℕ) (s : Side) → shows self.new l s ≡ quotes_added self.old (next_order self.old at.leg at.side price contracts customer) l s }
         ensures room { room self.new.orders ≡ room self.old.orders }
     {
         let order = LegOrder {
             number: self.added + 1,
-            leg,
-            side,
+            at,
             price,
             contracts,
             customer,
         };
-        if let Some(refusal) = self.why_not_added(order) {
-            return Err(refusal);
-        }
+        self.may_add(order)?;
         self.put_in(order);
         Ok(order.number)
     }
@@ -102,21 +100,19 @@ impl DepthBook<'_> {
         ensures quotes { (l : ℕ) (s : Side) → shows self.new l s ≡ left_if (order_numbered number (standing self.old)) (shows self.old) l s }
         ensures room { room self.new.orders ≡ room self.old.orders }
     {
-        let Some(place) = self.place_numbered(number) else {
-            return Err(Refusal::NoLegOrder);
-        };
+        let place = self.place_numbered(number).ok_or(Refusal::NoLegOrder)?;
         self.take_out(number, place);
         Ok(())
     }
 
     // Sets the away price of one side; 0 clears it.
-    pub fn set_away(&mut self, leg: usize, side: Side, price: u32) -> Result<(), Refusal>
-        ensures answer { result ≡ answered (away_refusal leg price) tt }
+    pub fn set_away(&mut self, at: LegSide, price: u32) -> Result<(), Refusal>
+        ensures answer { result ≡ answered (away_refusal at.leg price) tt }
         ensures orders { standing self.new ≡ standing self.old }
         ensures added { self.new.added ≡ self.old.added }
-        ensures quotes { (l : ℕ) (s : Side) → shows self.new l s ≡ away_set (shows self.old) leg side price l s }
+        ensures quotes { (l : ℕ) (s : Side) → shows self.new l s ≡ away_set (shows self.old) at.leg at.side price l s }
         ensures room { room self.new.orders ≡ room self.old.orders }
     {
-        put_away(&mut self.away, leg, side, price)
+        put_away(&mut self.away, at, price)
     }
 }

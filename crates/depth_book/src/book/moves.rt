@@ -1,5 +1,5 @@
 //! What the calls of a depth book are made of.
-ghost use Rattle.std.specs.Prelude.{◌≡◌, ℕ, ◌+◌, true, None};
+ghost use Rattle.std.specs.Prelude.{◌≡◌, ℕ, ◌+◌, true, None, Some, MatchResult};
 ghost use Rattle.terms.specs.declared.side.Side.{Side};
 ghost use Rattle.quotes.specs.Takes.{may_take, taken};
 ghost use Rattle.ranked.specs.Items.{room};
@@ -10,51 +10,45 @@ ghost use Rattle.leg_orders.specs.Adds.{entered};
 ghost use Rattle.leg_orders.specs.Leaves.{order_numbered, without, left_if};
 ghost use Rattle.depth_book.specs.Books.{standing, shows, why_not_added, NumberPlace};
 
-use super::super::away_table::LEGS;
 use super::super::scan::is_crowded;
-use super::super::uses::{gives, use_up};
+use super::super::uses::use_up;
 use super::DepthBook;
 use leg_orders::order::LegOrder;
 use market::leg_market::MarketView;
 use quotes::top::would_reach;
 use terms::refusal::Refusal;
-use terms::side::Side;
+use terms::side::LegSide;
+use terms::strategy::MAX_LEGS;
 
 // The most orders that are ever added to one book.
 const MAX_ADDED: u32 = 1_000_000;
 
 impl DepthBook<'_> {
-    pub(crate) fn why_not_added(&self, order: LegOrder) -> Option<Refusal>
-        ensures { result ≡ why_not_added self.now order }
+    // Whether the order may be added.
+    pub(crate) fn may_add(&self, order: LegOrder) -> Result<(), Refusal>
+        ensures { MatchResult result (λ _. None ≡ why_not_added self.now order) (λ refusal. Some refusal ≡ why_not_added self.now order) }
     {
-        if order.leg >= LEGS {
-            return Some(Refusal::QuoteRange);
+        if order.at.leg >= MAX_LEGS {
+            return Err(Refusal::QuoteRange);
         }
         if !order.level().is_sound() {
-            return Some(Refusal::QuoteRange);
+            return Err(Refusal::QuoteRange);
         }
-        let facing = self.level(order.leg, order.side.opposite(), 0);
-        if would_reach(order.side, order.price, facing) {
-            return Some(Refusal::QuoteCrosses);
+        let facing = self.level(order.at.facing(), 0);
+        if would_reach(order.at.side, order.price, facing) {
+            return Err(Refusal::QuoteCrosses);
         }
         if self.orders.len() >= self.orders.room() {
-            return Some(Refusal::BookRoom);
+            return Err(Refusal::BookRoom);
         }
         if self.added >= MAX_ADDED {
-            return Some(Refusal::BookRoom);
+            return Err(Refusal::BookRoom);
         }
-        let start = self.start_of(order.leg, order.side);
-        if is_crowded(
-            self.orders.as_slice(),
-            order.leg,
-            order.side,
-            start,
-            order.price,
-            order.contracts,
-        ) {
-            return Some(Refusal::BookRoom);
+        let levels = self.levels(order.at);
+        if is_crowded(levels, order.price, order.contracts) {
+            return Err(Refusal::BookRoom);
         }
-        None
+        Ok(())
     }
 
     // Takes in an order that nothing stands against.
@@ -87,21 +81,15 @@ impl DepthBook<'_> {
         let _ = self.orders.remove(place);
     }
 
-    pub(crate) fn may_take(&self, leg: usize, side: Side, quantity: u32) -> bool
-        ensures { result ≡ may_take (shows self.now leg side).own quantity }
-    {
-        gives(self.level(leg, side, 0), quantity)
-    }
-
     // Uses up orders of the best level, which holds as many contracts.
-    pub(crate) fn use_best(&mut self, leg: usize, side: Side, quantity: u32)
-        requires { may_take (shows self.old leg side).own quantity ≡ true }
-        ensures orders { standing self.new ≡ used_up leg side quantity (standing self.old) }
+    pub(crate) fn use_best(&mut self, at: LegSide, quantity: u32)
+        requires { may_take (shows self.old at.leg at.side).own quantity ≡ true }
+        ensures orders { standing self.new ≡ used_up at.leg at.side quantity (standing self.old) }
         ensures added { self.new.added ≡ self.old.added }
-        ensures quotes { (l : ℕ) (s : Side) → shows self.new l s ≡ taken (shows self.old) leg side quantity l s }
+        ensures quotes { (l : ℕ) (s : Side) → shows self.new l s ≡ taken (shows self.old) at.leg at.side quantity l s }
         ensures room { room self.new.orders ≡ room self.old.orders }
     {
-        let start = self.start_of(leg, side);
+        let start = self.start_of(at);
         use_up(&mut self.orders, start, quantity);
     }
 }

@@ -1,33 +1,43 @@
 //! What a depth book shows.
-ghost use Rattle.std.specs.Prelude.{◌≡◌, drop};
+ghost use Rattle.std.specs.Prelude.{◌≡◌, ◌≤◌, length};
 ghost use Rattle.ranked.specs.Order.{place_for};
 ghost use Rattle.leg_orders.specs.Ranks.{leg_before, ahead_of};
 ghost use Rattle.leg_orders.specs.Levels.{own};
-ghost use Rattle.leg_orders.specs.Scans.{Scannable};
 ghost use Rattle.leg_orders.proofs.Books.{book-sound, book-depth};
 ghost use Rattle.depth_book.specs.Books.{standing, shows};
+ghost use Rattle.depth_book.specs.Levels.{levels_left};
 
-use super::super::away_table::LEGS;
-use super::super::scan::level_at;
+use super::super::scan::MAX_PRICES;
+use super::super::side_levels::SideLevels;
 use super::DepthBook;
 use leg_orders::order::LegOrder;
 use market::leg_market::MarketView;
 use quotes::level::Level;
-use terms::side::Side;
+use terms::side::LegSide;
 
 impl DepthBook<'_> {
     // The place where the orders of one side of a leg begin.
-    pub(crate) fn start_of(&self, leg: usize, side: Side) -> usize
-        ensures place { result ≡ place_for leg_before (ahead_of leg side) (standing self.now) }
-        ensures scan { Scannable leg side (standing self.now) result }
-        ensures levels { own leg side (drop result (standing self.now)) ≡ own leg side (standing self.now) }
+    pub(crate) fn start_of(&self, at: LegSide) -> usize
+        ensures place { result ≡ place_for leg_before (ahead_of at.leg at.side) (standing self.now) }
+        ensures within { result ≤ length (standing self.now) }
     {
-        self.orders.place_of(&LegOrder::ahead_of(leg, side))
+        self.orders.place_of(&LegOrder::ahead_of(at))
+    }
+
+    // The own levels of one side of a leg, best first.
+    pub(crate) fn levels(&self, at: LegSide) -> SideLevels<'_>
+        ensures { levels_left result ≡ own at.leg at.side (standing self.now) }
+    {
+        let start = self.start_of(at);
+        SideLevels {
+            rest: &self.orders.as_slice()[start..],
+            at,
+        }
     }
 }
 
 impl MarketView for DepthBook<'_> {
-    const DEPTH: usize = 16;
+    const DEPTH: usize = MAX_PRICES;
 
     ghost depth = { 16 };
 
@@ -43,20 +53,11 @@ impl MarketView for DepthBook<'_> {
         Self::DEPTH
     }
 
-    fn level(&self, leg: usize, side: Side, place: usize) -> Option<Level> {
-        level_at(
-            self.orders.as_slice(),
-            leg,
-            side,
-            self.start_of(leg, side),
-            place,
-        )
+    fn level(&self, at: LegSide, place: usize) -> Option<Level> {
+        self.levels(at).nth(place)
     }
 
-    fn away(&self, leg: usize, side: Side) -> Option<u32> {
-        if leg >= LEGS {
-            return None;
-        }
-        self.away[leg].on(side)
+    fn away(&self, at: LegSide) -> Option<u32> {
+        self.away.get(at.leg)?.on(at.side)
     }
 }

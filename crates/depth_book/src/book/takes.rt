@@ -9,21 +9,20 @@ ghost use Rattle.depth_book.specs.Books.{standing, shows};
 use super::DepthBook;
 use market::leg_market::{LegMarket, MarketView};
 use terms::refusal::Refusal;
-use terms::side::Side;
+use terms::side::LegSide;
 
 impl LegMarket for DepthBook<'_> {
     // The orders of the best level go in rank.
-    fn take(&mut self, leg: usize, side: Side, quantity: u32) -> Result<(), Refusal>
-        ensures answer { result ≡ take_answer (shows self.old leg side).own quantity }
-        ensures quotes { (l : ℕ) (s : Side) → shows self.new l s ≡ taken (shows self.old) leg side quantity l s }
-        ensures orders { standing self.new ≡ orders_left leg side quantity (standing self.old) }
+    fn take(&mut self, at: LegSide, quantity: u32) -> Result<(), Refusal>
+        ensures answer { result ≡ take_answer (shows self.old at.leg at.side).own quantity }
+        ensures quotes { (l : ℕ) (s : Side) → shows self.new l s ≡ taken (shows self.old) at.leg at.side quantity l s }
+        ensures orders { standing self.new ≡ orders_left at.leg at.side quantity (standing self.old) }
         ensures added { self.new.added ≡ self.old.added }
         ensures room { room self.new.orders ≡ room self.old.orders }
     {
-        if !self.may_take(leg, side, quantity) {
-            return Err(Refusal::CannotTake);
-        }
-        self.use_best(leg, side, quantity);
+        let best = self.level(at, 0).ok_or(Refusal::CannotTake)?;
+        best.take(quantity)?;
+        self.use_best(at, quantity);
         Ok(())
     }
 }

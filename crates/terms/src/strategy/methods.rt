@@ -4,28 +4,24 @@ ghost use Rattle.terms.specs.Strategies.{strategy_answer, sound_legs, smallest_r
 ghost use Rattle.terms.specs.Made.{legs_of, answer_legs};
 
 use super::super::leg::{Leg, OptionKind};
-use super::super::ratios::{all_of_kind, all_on_side, refused};
+use super::super::ratios::{MAX_RATIO, all_of_kind, all_on_side, check};
 use super::super::refusal::Refusal;
 use super::super::side::Side;
-use super::Strategy;
+use super::{MAX_LEGS, Strategy};
 
 impl Strategy {
     pub fn make(legs: &[Leg]) -> Result<Strategy, Refusal>
         ensures answer { answer_legs result ≡ strategy_answer legs.now }
         ensures words { MadeExactlyOf legs.now (is_ok result) }
     {
-        if let Some(refusal) = refused(legs) {
-            return Err(refusal);
-        }
+        check(legs)?;
         let unused = Leg {
             kind: OptionKind::Call,
             side: Side::Buy,
             ratio: 1,
         };
-        let mut places = [unused; 6];
-        for i in 0..legs.len() {
-            places[i] = legs[i];
-        }
+        let mut places = [unused; MAX_LEGS];
+        places[..legs.len()].copy_from_slice(legs);
         Ok(Strategy {
             legs: places,
             count: legs.len(),
@@ -43,13 +39,9 @@ impl Strategy {
         ensures value { result ≡ smallest_ratio (legs_of self.now) }
         ensures least { SmallestOf (legs_of self.now) result }
     {
-        let mut smallest = 100;
-        for leg in self.legs() {
-            if leg.ratio < smallest {
-                smallest = leg.ratio;
-            }
-        }
-        smallest
+        self.legs()
+            .iter()
+            .fold(MAX_RATIO, |smallest, leg| smallest.min(leg.ratio))
     }
 
     // Whether every order in this strategy counts as Complex Only.
@@ -57,7 +49,7 @@ impl Strategy {
         ensures { result ≡ every_eco_complex_only (legs_of self.now) }
     {
         let legs = self.legs();
-        if legs.len() == 6 {
+        if legs.len() == MAX_LEGS {
             return true;
         }
         if !all_on_side(legs, Side::Buy) && !all_on_side(legs, Side::Sell) {

@@ -1,20 +1,9 @@
--- One price more is counted, until none is left.
-use Rattle.std.proofs.Common.{drop, arith}
-use Rattle.leg_orders.specs.Levels.{own}
-use Rattle.leg_orders.proofs.Runs.{own-end, scan-next}
-use Rattle.leg_orders.proofs.Crowds.{counted-more, crowded-new}
+-- There are no more prices than orders.
+use Rattle.std.proofs.Common.{arith}
+use Rattle.leg_orders.proofs.Runs.{levels-few}
 use Rattle.depth_book.proofs.scan.is_crowded.Goals as goal
 
-pub loop-at-preserved : goal.loop-at-preserved
-loop-at-preserved c =
-    let inv = c.loop-at.invariant in
-    let run = c.in-Some.ensures in
-    let rest = own c.args.leg c.args.side (drop c.in-Some.run'.next c.args.orders.now) in (
-      scan-next inv.0 run,
-      counted-more inv.1 c.in-Some.run'.level rest run.levels c.if-run-price.false,
-      omega (arith, run.later, inv.2),
-    )
-
-pub returns : goal.returns
-returns c =
-    crowded-new c.loop-at.invariant.1 c.args.quantity (own-end c.args.leg c.args.side c.args.orders.now c.loop-at.at c.loop-at-test.false) c.requires.1
+pub overflow_add-prices : goal.overflow_add-prices
+overflow_add-prices c =
+    let levels = c.args.levels in
+    omega (arith, levels-few levels.at.leg levels.at.side levels.rest.now, c.loop-level.invariant.long)

@@ -1,14 +1,15 @@
-use Rattle.std.proofs.Common.{◌-◌, ◌≤◌, length, drop}
-use Rattle.leg_orders.specs.Levels.{own}
-use Rattle.leg_orders.specs.Scans.{Scannable}
-use Rattle.leg_orders.proofs.Crowds.{Counted}
+-- The prices read so far are others, and they are counted.
+use Rattle.std.proofs.Common.{◌≡◌, ◌+◌, length}
+use Rattle.leg_orders.specs.Adds.{has_price, contracts_at}
+use Rattle.depth_book.specs.Levels.{levels_left}
 use Rattle.depth_book.proofs.scan.is_crowded.Given as goal
 
-abbrev pub invariant-loop-at : goal.invariant-loop-at
-invariant-loop-at l =
-    Scannable l.leg l.side l.orders l.at
-    × Counted l.price (own l.leg l.side (drop l.start l.orders)) (own l.leg l.side (drop l.at l.orders)) l.prices
-    × (l.prices ≤ l.at)
-
-abbrev pub decreases-loop-at : goal.decreases-loop-at
-decreases-loop-at l = length l.orders - l.at
+abbrev pub invariant-loop-level : goal.invariant-loop-level
+invariant-loop-level l =
+    let all = levels_left l.fn.levels in
+    let rest = levels_left l.level-iterator in
+    record {
+      has : has_price l.price all ≡ has_price l.price rest;
+      many : contracts_at l.price all ≡ contracts_at l.price rest;
+      long : length all ≡ l.prices + length rest;
+    }

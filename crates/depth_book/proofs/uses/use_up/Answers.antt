@@ -1,53 +1,32 @@
 -- Each order used up leaves the same work on what is left.
-use Rattle.std.proofs.Common.{◌≡◌, ◌≤◌, length, sym, ap, ◌∙◌, arith}
+use Rattle.std.proofs.Common.{length, sym, ap, ◌∙◌, arith}
 use Rattle.std.proofs.lemmas.List.Edits.{length-remove}
+use Rattle.std.proofs.lemmas.Option.{slice_get_within}
 use Rattle.ranked.specs.Items.{items}
 use Rattle.leg_orders.specs.Scans.{used_from}
-use Rattle.leg_orders.proofs.UsedFrom.{nth-within, nth-missing, used-past, used_all, part-replaced}
+use Rattle.leg_orders.proofs.UsedFrom.{used-past, used_all, part-replaced}
 use Rattle.depth_book.proofs.uses.use_up.Goals as goal
 
-pub returns-in_default : goal.returns-in_default
-returns-in_default c =
-    let inv = c.loop-orders.invariant in
-    let xs = items c.loop-orders.orders in
-    let past : length xs ≤ c.args.start = nth-missing xs c.args.start c.in_default.ensures in
-    record { room = inv.0; list = sym (used-past xs c.args.start c.loop-orders.left past) ∙ inv.1; order = inv.2 }
+pub returns-then-left-order-clause-list : goal.returns-then-left-order-clause-list
+returns-then-left-order-clause-list c =
+    part-replaced (items c.loop-order.orders) (items c.replace.new.self) c.args.start c.loop-order.left c.in-Some.order c.with_fewer.result c.replace.result
+    c.in-Some.ensures c.if-left-order.true c.with_fewer.ensures c.replace.ensures.answer c.replace.ensures.list
+    ∙ c.loop-order.invariant.list
 
-pub returns-then-left-order : goal.returns-then-left-order
-returns-then-left-order c =
-    let inv = c.loop-orders.invariant in
-    let xs = items c.loop-orders.orders in
-    let start = c.args.start in
-    let left = c.loop-orders.left in
-    let x = c.in-Some.order in
-    let read = c.in-Some.ensures in
-    let is : items c.replace.new.self ≡ used_from start left xs =
-    part-replaced xs (items c.replace.new.self) start left x c.with_fewer.result c.replace.result read c.if-left-order.true c.with_fewer.ensures c.replace.ensures.answer c.replace.ensures.list in
+pub loop-order-smaller : goal.loop-order-smaller
+loop-order-smaller c =
+    let xs = items c.loop-order.orders in
+    let within = slice_get_within xs c.args.start c.in-Some.order (sym c.in-Some.ensures) in
+    omega (arith, ap length c.remove.ensures.list, length-remove xs c.args.start within)
+
+pub loop-order-preserved : goal.loop-order-preserved
+loop-order-preserved c =
+    let xs = items c.loop-order.orders in
+    let inv = c.loop-order.invariant in
     record {
-      room = c.replace.ensures.room ∙ inv.0;
-      list = is ∙ inv.1;
-      order = λ up. c.replace.ensures.order (inv.2 up);
+      room = c.remove.ensures.room ∙ inv.room;
+      list = ap (used_from c.args.start _) c.remove.ensures.list ∙ used_all xs c.args.start c.loop-order.left c.in-Some.order c.in-Some.ensures c.if-left-order.false ∙ inv.list;
     }
 
-pub loop-orders-smaller : goal.loop-orders-smaller
-loop-orders-smaller c =
-    let xs = items c.loop-orders.orders in
-    let within = nth-within xs c.args.start c.in-Some.order c.in-Some.ensures in
-    let fewer-by-one = length-remove xs c.args.start within in
-    omega (arith, ap length c.remove.ensures.list, fewer-by-one)
-
-pub loop-orders-preserved : goal.loop-orders-preserved
-loop-orders-preserved c =
-    let inv = c.loop-orders.invariant in
-    let xs = items c.loop-orders.orders in (
-      c.remove.ensures.room ∙ inv.0,
-      ap (used_from c.args.start _) c.remove.ensures.list ∙ used_all xs c.args.start c.loop-orders.left c.in-Some.order c.in-Some.ensures c.if-left-order.false ∙ inv.1,
-      λ up. c.remove.ensures.order (inv.2 up),
-    )
-
-pub returns : goal.returns
-returns c =
-    let inv = c.loop-orders.invariant in
-    let xs = items c.loop-orders.orders in
-    let past : length xs ≤ c.args.start = omega (arith, c.len.ensures, c.loop-orders-test.false) in
-    record { room = inv.0; list = sym (used-past xs c.args.start c.loop-orders.left past) ∙ inv.1; order = inv.2 }
+pub returns-clause-list : goal.returns-clause-list
+returns-clause-list c = used-past (items c.loop-order.orders) c.args.start c.loop-order.left c.in_default.ensures ∙ c.loop-order.invariant.list

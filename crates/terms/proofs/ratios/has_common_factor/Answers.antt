@@ -1,6 +1,6 @@
-use Rattle.std.proofs.Common.{◌≡◌, ◌+◌, ◌-◌, sym, arith}
+use Rattle.std.proofs.Common.{◌≡◌, ◌-◌, sym, arith}
 use Rattle.terms.proofs.AllLegs.{decides-divides-all}
-use Rattle.terms.proofs.Factors.{decides-factor, no-factor-more}
+use Rattle.terms.proofs.Factors.{decides-factor}
 use Rattle.terms.proofs.ratios.has_common_factor.Goals as goal
 
 pub returns-then-divides_all : goal.returns-then-divides_all
@@ -8,11 +8,6 @@ returns-then-divides_all c =
     let legs = c.args.legs.now in
     let d = c.loop-divisor.divisor in
     sym ((decides-factor 100 legs).1 (d, omega arith, omega arith, (decides-divides-all d legs).0 (cc)))
-
-pub loop-divisor-preserved : goal.loop-divisor-preserved
-loop-divisor-preserved c =
-    let here : (c.loop-divisor.divisor + 1) - 1 ≡ c.loop-divisor.divisor = omega arith in
-    rw here (no-factor-more c.loop-divisor.divisor c.args.legs.now (omega arith) (cc) c.loop-divisor.invariant)
 
 pub returns : goal.returns
 returns c =

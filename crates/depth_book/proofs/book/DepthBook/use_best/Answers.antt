@@ -1,5 +1,5 @@
 -- The orders used up from where the side begins leave what a take defines.
-use Rattle.std.proofs.Common.{refl}
+use Rattle.std.proofs.Common.{refl, arith}
 use Rattle.ranked.specs.Items.{items}
 use Rattle.leg_orders.proofs.Calls.{took}
 use Rattle.depth_book.specs.Books.{standing}
@@ -10,12 +10,12 @@ pub invariant_of-self : goal.invariant_of-self
 invariant_of-self c =
     let m = c.args.self.now in
     let a = c.args in
-    let out = took m.added (standing m) (items c.use_up.new.orders) m.away a.leg a.side a.quantity c.start_of-start.result (held m) c.requires c.start_of-start.ensures.place c.use_up.ensures.list c.use_up.ensures.order in
-    record { ranked = out.kept.ranked; fine = out.kept.fine; numbers = out.kept.numbers; few = m.few; long = m.long; sound = out.kept.sound }
+    let out = took m.added (standing m) (items c.use_up.new.orders) m.away a.at.leg a.at.side a.quantity c.start_of-start.result (held m) c.requires c.start_of-start.ensures.place c.use_up.ensures.list c.use_up.new.orders.ranked in
+    record { some = omega (arith, m.some, c.use_up.ensures.room); most = omega (arith, m.most, c.use_up.ensures.room); fine = out.kept.fine; numbers = out.kept.numbers; few = m.few; long = m.long; sound = out.kept.sound }
 
 pub returns : goal.returns
 returns c =
     let m = c.args.self.now in
     let a = c.args in
-    let out = took m.added (standing m) (items c.use_up.new.orders) m.away a.leg a.side a.quantity c.start_of-start.result (held m) c.requires c.start_of-start.ensures.place c.use_up.ensures.list c.use_up.ensures.order in
+    let out = took m.added (standing m) (items c.use_up.new.orders) m.away a.at.leg a.at.side a.quantity c.start_of-start.result (held m) c.requires c.start_of-start.ensures.place c.use_up.ensures.list c.use_up.new.orders.ranked in
     record { orders = out.rest; added = refl; quotes = out.shows; room = c.use_up.ensures.room }

@@ -6,12 +6,12 @@ pub invariant_of-self : goal.invariant_of-self
 invariant_of-self c =
     let m = c.args.self.now in
     let a = c.args in
-    let kept = keeps-as _ _ _ _ c.take_best.ensures.after (take-best-keeps m.legs a.leg a.side a.quantity m.long m.sound) in
+    let kept = keeps-as _ _ _ _ c.take_best.ensures.after (take-best-keeps m.legs a.at.leg a.at.side a.quantity m.long m.sound) in
     record { long = kept.long; sound = kept.sound }
 
 pub returns : goal.returns
 returns c =
     let m = c.args.self.now in
     let a = c.args in
-    let kept = keeps-as _ _ _ _ c.take_best.ensures.after (take-best-keeps m.legs a.leg a.side a.quantity m.long m.sound) in
+    let kept = keeps-as _ _ _ _ c.take_best.ensures.after (take-best-keeps m.legs a.at.leg a.at.side a.quantity m.long m.sound) in
     record { answer = c.take_best.ensures.answer; quotes = kept.shows }

@@ -1,11 +1,9 @@
 -- Six legs aside, legs on both sides do not count; a sound strategy has at least two legs.
 use Rattle.std.proofs.Common.{◌≡◌, false, eqb, leb, List, length, arith}
 use Rattle.std.proofs.lemmas.Bool.{and_right, ne_eqb, or_from}
-use Rattle.std.proofs.lemmas.Bool.Decides.{nat_tests}
 use Rattle.terms.specs.declared.leg.Leg.{Leg}
 use Rattle.terms.specs.declared.side.Side.TheVariants.{Buy, Sell}
 use Rattle.terms.specs.Strategies.{all_on_side, on_one_side, of_one_kind, every_eco_complex_only}
-use Rattle.terms.proofs.SoundLegs.{sound-count}
 use Rattle.terms.proofs.strategy.Strategy.counts_complex_only.Goals as goal
 
 not-on-both-sides : (legs : List Leg) → (length legs ≡ 6 → ⊥) →
@@ -18,9 +16,3 @@ not-on-both-sides legs six buy sell =
 
 pub returns-then-not-all_on_side-2 : goal.returns-then-not-all_on_side-2
 returns-then-not-all_on_side-2 c = grind (arith, not-on-both-sides)
-
-pub returns-then-all_of_kind : goal.returns-then-all_of_kind
-returns-then-all_of_kind c = grind (arith, nat_tests, sound-count)
-
-pub returns-else-all_of_kind : goal.returns-else-all_of_kind
-returns-else-all_of_kind c = grind (arith, nat_tests, sound-count)
