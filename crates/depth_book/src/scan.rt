@@ -4,7 +4,7 @@ ghost use Rattle.std.specs.Iterator.{YieldsFirst, item_count};
 ghost use Rattle.quotes.specs.Shown.{contracts};
 ghost use Rattle.leg_orders.specs.Levels.{is_of, level_from, plus};
 ghost use Rattle.leg_orders.specs.Adds.{crowded};
-ghost use Rattle.depth_book.specs.Levels.{levels_left};
+ghost use Rattle.depth_book.specs.Levels.{unread_levels};
 
 use super::side_levels::SideLevels;
 use leg_orders::order::LegOrder;
@@ -38,9 +38,9 @@ impl SideLevels<'_> {
 impl Iterator for SideLevels<'_> {
     type Item = Level;
 
-    ghost next_gives = { YieldsFirst levels_left };
+    ghost next_gives = { YieldsFirst unread_levels };
 
-    ghost remaining = { item_count levels_left };
+    ghost remaining = { item_count unread_levels };
 
     // The orders at one price are neighbours: the level is the sum of those in front at the first one's price.
     fn next(&mut self) -> Option<Level> {
@@ -64,7 +64,7 @@ impl Iterator for SideLevels<'_> {
 // Whether `quantity` contracts more at `price` would make a 17th price or too large a level.
 pub(crate) fn is_crowded(levels: SideLevels<'_>, price: u32, quantity: u32) -> bool
     requires { quantity ≤ 10000000 }
-    ensures { result ≡ crowded price quantity (levels_left levels.entry) }
+    ensures { result ≡ crowded price quantity (unread_levels levels.entry) }
 {
     // One reading both looks for the price and counts the others.
     let mut prices: usize = 0;

@@ -4,7 +4,7 @@ use Rattle.std.proofs.lemmas.Bool.Decides.{nat_tests}
 use Rattle.terms.specs.declared.side.Side.{Side}
 use Rattle.terms.specs.declared.side.Side.TheVariants.{Buy, Sell}
 use Rattle.terms.specs.declared.side.BySide.{BySide}
-use Rattle.terms.specs.Sides.{opposite, on_side}
+use Rattle.terms.specs.Sides.{opposite, of_side}
 use Rattle.quotes.specs.declared.level.Level.{Level}
 use Rattle.quotes.specs.declared.top.LegTop.{LegTop}
 use Rattle.quotes.specs.Shown.{SideQuotes, LegQuotes, sound_leg, sound_side, sound_levels, sound_away, uncrossed}
@@ -85,7 +85,7 @@ pub used-within : (top : LegTop) (side : Side) (price : ℕ) → SoundTop top �
 used-within top side price h e =
     else-within side (quoted_price top side) (quoted_price top (opposite side)) price (quoted-price-within top side h) (quoted-price-within top (opposite side) h) e
 
-pub pair-within : (top : LegTop) (pair : BySide ℕ) (side : Side) → SoundTop top → used_price top Buy ≡ Some pair.bid → used_price top Sell ≡ Some pair.offer → on_side pair side ≤ 1000190
+pub pair-within : (top : LegTop) (pair : BySide ℕ) (side : Side) → SoundTop top → used_price top Buy ≡ Some pair.bid → used_price top Sell ≡ Some pair.offer → of_side pair side ≤ 1000190
 pair-within top pair Buy h bid offer = used-within top Buy pair.bid h bid
 pair-within top pair Sell h bid offer = used-within top Sell pair.offer h offer
 

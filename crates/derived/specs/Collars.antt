@@ -1,11 +1,9 @@
 -- Deviations and collar values.
 --   deviation     the larger of 5 and a twentieth of the away price, its fraction dropped
---   bands         the table of collar values
---   collar        the collar value of a price: the amount of the first band that it does not pass
---   first_amount  the same of any bands, as a search from the front finds it
+--   bands         the table of collar values (up_to, a row of it)
+--   collar        the collar value of a price: the amount of the first band that it does not pass (collar_in, of any bands)
 --   CollarRule    the same, band by band
-use Rattle.std.specs.Prelude.{◌≡◌, ℕ, ◌/◌, ◌<◌, ◌≤◌, max, cond, List, [], ◌∷◌, find, nat_le}
-use Rattle.std.specs.Option.{unwrap_or, option_map}
+use Rattle.std.specs.Prelude.{◌≡◌, ℕ, ◌/◌, ◌<◌, ◌≤◌, max, cond, List, [], ◌∷◌, nat_le}
 use Rattle.derived.specs.declared.collar.Band.{Band}
 
 abbrev pub deviation : ℕ → ℕ
@@ -23,9 +21,6 @@ collar_in (band ∷ rest) price = cond (nat_le price band.limit) band.amount (co
 
 unfoldable pub collar : ℕ → ℕ
 collar price = collar_in bands price
-
-abbrev pub first_amount : List Band → ℕ → ℕ
-first_amount bands price = unwrap_or (option_map (λ (band : Band). band.amount) (find (λ (band : Band). nat_le price band.limit) bands)) 190
 
 pub record CollarRule (price amount : ℕ) : Type 0 where
   pub to200 : price ≤ 200 → amount ≡ 20

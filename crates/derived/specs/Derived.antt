@@ -1,15 +1,21 @@
 -- The derived prices of a strategy.
 --   SeenLeg           a leg and what the market shows at its top
---   seen              the legs of a strategy as the market shows them, leg 0 first
+--   seen              the legs of a strategy as the market shows them, leg 0 first (seen_at, seen_from: at a place, and from one on)
 --   facing            the side of a leg's quotes with which a trader of units trades: a buyer of units buys the
 --                     bought legs from offers and sells the sold legs to bids; a seller does the opposite
---   net_price         ratio times used price summed over bought legs, less that sum over sold legs
+--   price_for         the used price of a leg, for that trader
+--   net_price         ratio times used price summed over bought legs, less that sum over sold legs (on_side, sum_over: an amount
+--                     that counts for one side, and the sum over it)
 --   level_for         the own level behind the used price of a leg, for that trader
---   customers_behind  every used price in the net price is own, with customer contracts in its level
+--   customers_behind  every used price in the net price is own, with customer contracts in its level (has_customers, of a level)
 --   units_behind      the least, over legs, of the contracts of the level divided by the ratio; 0 where a price is not own
---   priced            every leg has both used prices
+--                     (units_in, units_of_leg: of a level, and of a leg; least_from, the least over legs)
+--   bottom_collar, top_collar    the collars, a smallest ratio within DBB and DBO where customers stand behind every price
+--   priced            every leg has both used prices (both_used, of one leg; when_priced, an answer given only then)
+--   none_crossed      no leg is crossed
 --   derived_of        all derived prices, where every leg is priced: DBB is the net price for a seller, DBO for a buyer
 --   dbb_of, dbo_of, collars_of, orders_may_meet, leg_units    one of them each; without derived prices no ECOs meet, and the legs have no units
+--   Least             a number is the value of one of the legs, and no leg has less
 --   LeastUnits        that the leg units are the least over the legs, in words
 use Rattle.std.specs.Prelude.{◌≡◌, ℕ, ◌+◌, ◌*◌, ◌/◌, ◌<◌, ◌≤◌, min, Bool, true, false, cond, not, ◌&&◌, List, [], ◌∷◌, length, ℤ, pos, ◌+ℤ◌, ◌-ℤ◌, is_some, Some, None, fold, sum_by, Option, nat_le, slice_index_or}
 use Rattle.std.specs.Option.{unwrap_or}

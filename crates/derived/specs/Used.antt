@@ -3,12 +3,15 @@
 --   better_of      the higher of two bids, the lower of two offers
 --   quoted_price   own and away: the better of the own price and the bound; own alone; away alone
 --   from_opposite  nothing quoted on this side: a collar value from the opposite side's price, at least 1
---   used_price     the price quoted on the side, else from the price quoted on the opposite side
+--   used_price     the price quoted on the side, else from the price quoted on the opposite side (quoted_else, of the two)
 --   own_behind     the own level whose price this is
---   level_behind   the own level behind the used price of a side
+--   level_behind   the own level behind the used price of a side (behind_price, of the level and the price)
+--   held           the contracts of a level, 0 where there is none
 --   used_is_own    whether there is one
 --   best_price     the higher of the own and the away bid, the lower of the own and the away offer
 --   crossed        the higher bid, own or away, reaches the lower offer
+--   SoundTop       the top of a leg keeps a market's rules
+--   Within         a price, if any, is no more than 1,000,000
 use Rattle.std.specs.Prelude.{◌≡◌, ℕ, ◌+◌, ◌-◌, ◌≤◌, min, max, Bool, true, false, cond, is_some, Some, None, Option, ◌==◌, nat_le, nat_lt}
 use Rattle.terms.specs.declared.side.Side.{Side}
 use Rattle.terms.specs.declared.side.Side.TheVariants.{Buy, Sell}

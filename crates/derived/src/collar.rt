@@ -1,6 +1,6 @@
 //! Deviations and collar values.
-ghost use Rattle.std.specs.Prelude.{◌≡◌};
-ghost use Rattle.derived.specs.Collars.{deviation, bands, first_amount, collar, CollarRule};
+ghost use Rattle.std.specs.Prelude.{◌≡◌, find, nat_le};
+ghost use Rattle.derived.specs.Collars.{deviation, bands, collar_in, collar, CollarRule};
 
 // A band of prices, up to its limit, and the collar value there.
 #[derive(Clone, Copy)]
@@ -47,18 +47,22 @@ pub fn deviation(away: u32) -> u32
     (away / 20).max(5)
 }
 
+// The first band that reaches the price.
+fn band_for(bands: &[Band], price: u32) -> Option<Band>
+    ensures { result ≡ find (λ band. nat_le price band.limit) bands.now }
+{
+    bands.iter().copied().find(|band| price <= band.limit)
+}
+
 fn amount_in(bands: &[Band], price: u32) -> u32
-    ensures { result ≡ first_amount bands.now price }
+    ensures { result ≡ collar_in bands.now price }
 {
     // the last band reaches every price, so no price comes to this 190
-    bands
-        .iter()
-        .find(|band| price <= band.limit)
-        .map_or(190, |band| band.amount)
+    band_for(bands, price).map_or(190, |band| band.amount)
 }
 
 fn amount_in_table(price: u32) -> u32
-    ensures { result ≡ first_amount bands price }
+    ensures { result ≡ collar_in bands price }
 {
     amount_in(&BANDS, price)
 }

@@ -5,7 +5,7 @@ use Rattle.terms.specs.declared.refusal.Refusal.{Refusal}
 use Rattle.terms.specs.declared.side.Side.{Side}
 use Rattle.terms.specs.declared.side.Side.TheVariants.{Buy, Sell}
 use Rattle.terms.specs.Refusals.{unless_refused}
-use Rattle.terms.specs.Sides.{same_side, on_side, with_on}
+use Rattle.terms.specs.Sides.{same_side, of_side, with_on}
 use Rattle.quotes.specs.declared.level.Level.{Level}
 use Rattle.quotes.specs.Shown.{Shown, sound_away, sound_leg}
 use Rattle.quotes.specs.Takes.{replaced}
@@ -30,13 +30,13 @@ leg-away bids offers x y p q e f h =
       apart = k.apart;
     })
 
-away-sound : (prices : AwayPrices) (side s : Side) (price : Option ℕ) → sound_away price ≡ true → sound_away (on_side prices s) ≡ true → sound_away (on_side (with_on prices side price) s) ≡ true
+away-sound : (prices : AwayPrices) (side s : Side) (price : Option ℕ) → sound_away price ≡ true → sound_away (of_side prices s) ≡ true → sound_away (of_side (with_on prices side price) s) ≡ true
 away-sound prices Buy Buy price e h = e
 away-sound prices Buy Sell price e h = h
 away-sound prices Sell Buy price e h = h
 away-sound prices Sell Sell price e h = e
 
-side-away : (orders : List LegOrder) (away : List AwayPrices) (l : ℕ) (s : Side) → SoundBook orders away → sound_away (on_side (get_or away l no_away) s) ≡ true
+side-away : (orders : List LegOrder) (away : List AwayPrices) (l : ℕ) (s : Side) → SoundBook orders away → sound_away (of_side (get_or away l no_away) s) ≡ true
 side-away orders away l Buy sound = (side-parts 16 Buy (book_shown orders away l Buy) (leg-parts 16 (book_shown orders away l) (sound l)).bids).away
 side-away orders away l Sell sound = (side-parts 16 Sell (book_shown orders away l Sell) (leg-parts 16 (book_shown orders away l) (sound l)).offers).away
 
@@ -46,7 +46,7 @@ pub record AwayKept (orders : List LegOrder) (away : List AwayPrices) (shown : S
   pub shows : (l : ℕ) (s : Side) → book_shown orders away l s ≡ shown l s
 
 away-here : (orders : List LegOrder) (prices : AwayPrices) (leg : ℕ) (side s : Side) (price : Option ℕ) →
-    side_of (own leg s orders) (on_side (with_on prices side price) s) ≡ cond (same_side s side) (side_of (own leg side orders) price) (side_of (own leg s orders) (on_side prices s))
+    side_of (own leg s orders) (of_side (with_on prices side price) s) ≡ cond (same_side s side) (side_of (own leg side orders) price) (side_of (own leg s orders) (of_side prices s))
 away-here orders prices leg Buy Buy price = refl
 away-here orders prices leg Buy Sell price = refl
 away-here orders prices leg Sell Buy price = refl
@@ -63,7 +63,7 @@ away-changed orders away leg side price long sound in6 fits =
           elim (cases_eq l leg) [
             | inl same ↦
                 rw (same, get_or-set_same away leg new no_away lt)
-                (leg-away (own leg Buy orders) (own leg Sell orders) (on_side (get_or away leg no_away) Buy) (on_side (get_or away leg no_away) Sell) (on_side new Buy) (on_side new Sell)
+                (leg-away (own leg Buy orders) (own leg Sell orders) (of_side (get_or away leg no_away) Buy) (of_side (get_or away leg no_away) Sell) (of_side new Buy) (of_side new Sell)
                 (away-sound (get_or away leg no_away) side Buy price fits (side-away orders away leg Buy sound))
                 (away-sound (get_or away leg no_away) side Sell price fits (side-away orders away leg Sell sound)) (sound leg))
             | inr other ↦ rw (get_or-set_other away leg l new no_away other) (sound l)

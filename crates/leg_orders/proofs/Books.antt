@@ -5,7 +5,7 @@ use Rattle.std.proofs.lemmas.List.{get_or_past}
 use Rattle.std.proofs.lemmas.Bool.{cases_Bool, and_parts, eqb-true, ne_eqb, leb-true, ltb-true}
 use Rattle.terms.specs.declared.side.Side.{Side}
 use Rattle.terms.specs.declared.side.Side.TheVariants.{Buy, Sell}
-use Rattle.terms.specs.Sides.{same_side, on_side}
+use Rattle.terms.specs.Sides.{same_side, of_side}
 use Rattle.quotes.specs.declared.level.Level.{Level}
 use Rattle.quotes.specs.Shown.{SideQuotes, Sound, nothing, sound_leg, sound_level, sound_levels}
 use Rattle.quotes.specs.Takes.{less_best, may_take, taken, levels_left}
@@ -36,14 +36,14 @@ own-lacks leg side (x ∷ xs) past fine =
     let apart : eqb x.at.leg leg ≡ false = ne_eqb x.at.leg leg (λ e. omega (arith, low, past, e)) in
     rw apart (own-lacks leg side xs past (fine-rest x xs fine))
 
-none-on : (side : Side) → on_side no_away side ≡ None
+none-on : (side : Side) → of_side no_away side ≡ None
 none-on Buy = refl
 none-on Sell = refl
 
 pub book-lacks : (orders : List LegOrder) (away : List AwayPrices) → length away ≡ 6 → fine_orders orders ≡ true → (leg : ℕ) (side : Side) → 6 ≤ leg → book_shown orders away leg side ≡ nothing
 book-lacks orders away long fine leg side past =
-    let none : (s : Side) → on_side (get_or away leg no_away) s ≡ None = λ s. ap (λ (prices : AwayPrices). on_side prices s) (get_or_past away leg no_away (omega arith)) ∙ none-on s in
-    ap (λ (levels : List Level). record { own = levels; away = on_side (get_or away leg no_away) side }) (own-lacks leg side orders past fine)
+    let none : (s : Side) → of_side (get_or away leg no_away) s ≡ None = λ s. ap (λ (prices : AwayPrices). of_side prices s) (get_or_past away leg no_away (omega arith)) ∙ none-on s in
+    ap (λ (levels : List Level). record { own = levels; away = of_side (get_or away leg no_away) side }) (own-lacks leg side orders past fine)
     ∙ ap (λ (price : Option ℕ). record { own = []; away = price }) (none side)
 
 pub book-sound : (orders : List LegOrder) (away : List AwayPrices) → length away ≡ 6 → fine_orders orders ≡ true → SoundBook orders away → Sound 16 (book_shown orders away)
@@ -163,13 +163,13 @@ pub sound-entered : (x : LegOrder) (xs ys : List LegOrder) (away : List AwayPric
     SoundBook (xs ++ ys) away → SoundBook (xs ++ x ∷ ys) away
 sound-entered x xs ys away ranked bid offer sound l =
     leg-entered (own l Buy (xs ++ ys)) (own l Sell (xs ++ ys)) (own l Buy (xs ++ x ∷ ys)) (own l Sell (xs ++ x ∷ ys))
-    (on_side (get_or away l no_away) Buy) (on_side (get_or away l no_away) Sell) (level_from x) (is_of l Buy x) (is_of l Sell x)
+    (of_side (get_or away l no_away) Buy) (of_side (get_or away l no_away) Sell) (level_from x) (is_of l Buy x) (is_of l Sell x)
     (own-entered x xs ys away ranked l Buy) (own-entered x xs ys away ranked l Sell) (bid l) (offer l) (not-both l x) (sound l)
 
 pub sound-left : (x : LegOrder) (xs ys : List LegOrder) (away : List AwayPrices) → in_order leg_before (xs ++ x ∷ ys) ≡ true → fine_orders (xs ++ ys) ≡ true → SoundBook (xs ++ x ∷ ys) away → SoundBook (xs ++ ys) away
 sound-left x xs ys away ranked fine sound l =
     leg-left (own l Buy (xs ++ ys)) (own l Sell (xs ++ ys)) (own l Buy (xs ++ x ∷ ys)) (own l Sell (xs ++ x ∷ ys))
-    (on_side (get_or away l no_away) Buy) (on_side (get_or away l no_away) Sell) (level_from x) (is_of l Buy x) (is_of l Sell x)
+    (of_side (get_or away l no_away) Buy) (of_side (get_or away l no_away) Sell) (level_from x) (is_of l Buy x) (is_of l Sell x)
     (own-entered x xs ys away ranked l Buy) (own-entered x xs ys away ranked l Sell) (own-each l Buy (xs ++ ys) fine) (own-each l Sell (xs ++ ys) fine) (sound l)
 
 -- ---- orders are used up

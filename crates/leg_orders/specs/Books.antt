@@ -13,7 +13,7 @@ use Rattle.std.specs.Prelude.{◌≡◌, ℕ, Bool, true, false, not, ◌&&◌, 
 use Rattle.terms.specs.declared.side.Side.{Side}
 use Rattle.terms.specs.declared.side.BySide.{BySide}
 use Rattle.terms.specs.Refusals.{unless_refused}
-use Rattle.terms.specs.Sides.{on_side, with_on}
+use Rattle.terms.specs.Sides.{of_side, with_on}
 use Rattle.quotes.specs.Shown.{Shown, sound_leg, sound_level}
 use Rattle.quotes.specs.Sheets.{away_given, away_refusal}
 use Rattle.leg_orders.specs.declared.order.LegOrder.{LegOrder}
@@ -26,7 +26,7 @@ abbrev pub no_away : AwayPrices
 no_away = record { bid = None; offer = None }
 
 abbrev pub book_shown : List LegOrder → List AwayPrices → Shown
-book_shown orders away leg side = record { own = own leg side orders; away = on_side (slice_index_or away leg no_away) side }
+book_shown orders away leg side = record { own = own leg side orders; away = of_side (slice_index_or away leg no_away) side }
 
 -- the away prices of a book after one was set
 abbrev pub away_prices : List AwayPrices → ℕ → Side → ℕ → List AwayPrices

@@ -4,7 +4,7 @@ use Rattle.std.proofs.lemmas.Bool.{both_ways, cases_eq, cases_lt, eq-eqb, ne_eqb
 use Rattle.terms.specs.declared.refusal.Refusal.{Refusal}
 use Rattle.terms.specs.declared.side.Side.{Side}
 use Rattle.terms.specs.declared.side.Side.TheVariants.{Buy, Sell}
-use Rattle.terms.specs.Sides.{same_side, on_side, with_on}
+use Rattle.terms.specs.Sides.{same_side, of_side, with_on}
 use Rattle.quotes.specs.declared.level.Level.{Level}
 use Rattle.quotes.specs.declared.taken.Found.{Found}
 use Rattle.quotes.specs.Shown.{SideQuotes, LegQuotes, Shown, Sound, sound_side, sound_leg, sound_levels}
@@ -61,13 +61,13 @@ none-at zero leg = refl
 none-at (suc legs) zero = refl
 none-at (suc legs) (suc leg) = none-at legs leg
 
-pub none-on : (side : Side) → on_side none_taken side ≡ 0
+pub none-on : (side : Side) → of_side none_taken side ≡ 0
 none-on Buy = refl
 none-on Sell = refl
 
 pub tried-new : (depth : ℕ) (shown : Shown) → Sound depth shown → (leg : ℕ) (side : Side) → tried shown (replicate 6 none_taken) leg side ≡ shown leg side
 tried-new depth shown h leg side =
-    let none : taken_at (replicate 6 none_taken) leg side ≡ 0 = ap (λ (t : Taken). on_side t side) (none-at 6 leg) ∙ none-on side in
+    let none : taken_at (replicate 6 none_taken) leg side ≡ 0 = ap (λ (t : Taken). of_side t side) (none-at 6 leg) ∙ none-on side in
     let levels = less_none side (shown leg side).own (side-levels depth shown h leg side) in
     ap (λ (n : ℕ). record { own = less_taken (shown leg side).own n; away = (shown leg side).away }) none
     ∙ ap (λ (own : List Level). record { own = own; away = (shown leg side).away }) levels
@@ -78,9 +78,9 @@ none_left depth shown h leg side n past = ap (λ (q : SideQuotes). less_taken q.
 
 -- ---- a take
 
-take-here : (q : LegQuotes) (t : Taken) (side : Side) (quantity : ℕ) (left : List Level) → less_taken (q side).own (on_side t side + quantity) ≡ left → (s : Side) →
-    ◌≡◌ {A = SideQuotes} (record { own = less_taken (q s).own (on_side (with_on t side (on_side t side + quantity)) s); away = (q s).away })
-    (cond (same_side s side) (record { own = left; away = (q side).away }) (record { own = less_taken (q s).own (on_side t s); away = (q s).away }))
+take-here : (q : LegQuotes) (t : Taken) (side : Side) (quantity : ℕ) (left : List Level) → less_taken (q side).own (of_side t side + quantity) ≡ left → (s : Side) →
+    ◌≡◌ {A = SideQuotes} (record { own = less_taken (q s).own (of_side (with_on t side (of_side t side + quantity)) s); away = (q s).away })
+    (cond (same_side s side) (record { own = left; away = (q side).away }) (record { own = less_taken (q s).own (of_side t s); away = (q s).away }))
 take-here q t Buy quantity left e Buy = ap (λ (own : List Level). record { own = own; away = (q Buy).away }) e
 take-here q t Buy quantity left e Sell = refl
 take-here q t Sell quantity left e Buy = refl
@@ -89,7 +89,7 @@ take-here q t Sell quantity left e Sell = ap (λ (own : List Level). record { ow
 tried-added : (shown : Shown) (totals : List Taken) (leg : ℕ) (side : Side) (quantity : ℕ) → leg < length totals → less_taken (shown leg side).own (taken_at totals leg side + quantity) ≡ levels_left (tried shown totals leg side).own quantity → (l : ℕ) (s : Side) → tried shown (set totals leg (with_on (get_or totals leg none_taken) side (taken_at totals leg side + quantity))) l s ≡ taken (tried shown totals) leg side quantity l s
 tried-added shown totals leg side quantity lt e l s =
     let t = get_or totals leg none_taken in
-    let new = with_on t side (on_side t side + quantity) in
+    let new = with_on t side (of_side t side + quantity) in
     elim (cases_eq l leg) [
       | inl same ↦ rw (same, get_or-set_same totals leg new none_taken lt, eq-eqb leg leg refl) (take-here (shown leg) t side quantity (levels_left (tried shown totals leg side).own quantity) e s)
       | inr other ↦ rw (get_or-set_other totals leg l new none_taken other, ne_eqb l leg other)

@@ -2,7 +2,8 @@
 --   best          the first level of a list
 --   may_take      the quantity is at least 1 and no more than the best level holds
 --   lessened      a level with that many contracts fewer, customers' contracts going first
---   levels_left   the levels after a take: an empty level leaves; where it is refused, all stay
+--   levels_left   the levels after a take: an empty level leaves; where it is refused, all stay (less_best, where it is not)
+--   replaced      the quotes with others on one side of one leg
 --   taken         the quotes after a take: nothing else moves
 --   take_answer   what a take answers
 --   level_left    what is left of one level, if anything

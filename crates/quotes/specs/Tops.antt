@@ -8,7 +8,7 @@
 use Rattle.std.specs.Prelude.{ℕ, List, [], ◌∷◌, Some, None, Option}
 use Rattle.terms.specs.declared.side.Side.{Side}
 use Rattle.terms.specs.declared.side.Side.TheVariants.{Buy, Sell}
-use Rattle.terms.specs.Sides.{on_side, with_on}
+use Rattle.terms.specs.Sides.{of_side, with_on}
 use Rattle.quotes.specs.declared.level.Level.{Level}
 use Rattle.quotes.specs.declared.top.LegTop.{LegTop}
 use Rattle.quotes.specs.Shown.{LegQuotes}
@@ -18,10 +18,10 @@ abbrev pub no_top : LegTop
 no_top = record { own = record { bid = None; offer = None }; away = record { bid = None; offer = None } }
 
 abbrev pub own_of : LegTop → Side → Option Level
-own_of top side = on_side top.own side
+own_of top side = of_side top.own side
 
 abbrev pub away_of : LegTop → Side → Option ℕ
-away_of top side = on_side top.away side
+away_of top side = of_side top.away side
 
 abbrev pub with_own : LegTop → Side → Option Level → LegTop
 with_own top side level = record { own = with_on top.own side level; away = top.away }

@@ -10,7 +10,7 @@
 use Rattle.std.specs.Prelude.{◌≡◌, ℕ, ◌+◌, ◌-◌, ◌<◌, ◌≤◌, cond, List, [], ◌∷◌, drop, Some, None, Option, nat_lt, slice_index_or, slice_set}
 use Rattle.terms.specs.declared.side.Side.{Side}
 use Rattle.terms.specs.declared.side.BySide.{BySide}
-use Rattle.terms.specs.Sides.{on_side, with_on}
+use Rattle.terms.specs.Sides.{of_side, with_on}
 use Rattle.quotes.specs.declared.level.Level.{Level}
 use Rattle.quotes.specs.declared.taken.Found.{Found}
 use Rattle.quotes.specs.Shown.{Shown, contracts}
@@ -25,7 +25,7 @@ abbrev pub none_taken : Taken
 none_taken = record { bid = 0; offer = 0 }
 
 abbrev pub taken_at : List Taken → ℕ → Side → ℕ
-taken_at totals leg side = on_side (slice_index_or totals leg none_taken) side
+taken_at totals leg side = of_side (slice_index_or totals leg none_taken) side
 
 abbrev pub taken_more : List Taken → ℕ → Side → List Level → ℕ → List Taken
 taken_more totals leg side levels quantity =

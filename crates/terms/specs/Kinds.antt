@@ -1,4 +1,5 @@
--- How the kind of an option is written.
+-- Kinds of options.
+--   kind_text   how a kind is written
 use Rattle.std.specs.Prelude.{ℕ, List, codes}
 use Rattle.terms.specs.declared.leg.OptionKind.{OptionKind}
 use Rattle.terms.specs.declared.leg.OptionKind.TheVariants.{Call, Put}

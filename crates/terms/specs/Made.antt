@@ -1,4 +1,6 @@
--- The legs of a strategy, and what making one answers.
+-- Strategies that were made.
+--   legs_of       the legs of a strategy
+--   answer_legs   what making one answers, with its legs in place of the strategy
 use Rattle.std.specs.Prelude.{List, take, Ok, Err, Result}
 use Rattle.terms.specs.declared.leg.Leg.{Leg}
 use Rattle.terms.specs.declared.refusal.Refusal.{Refusal}

@@ -4,8 +4,8 @@
 --   side_text         how a side is written
 --   leg_side_text     how a side of a leg is written (quote_text, of its quotes)
 --   bid_of, offer_of  a leg's side of bids, and of offers
---   facing            the other side of the same leg
---   on_side           what there is on one side
+--   facing_side       the other side of the same leg
+--   of_side           what there is on one side
 --   with_on           the pair with something else on one side
 use Rattle.std.specs.Prelude.{ℕ, Bool, true, false, List, ◌++◌, codes, decimal}
 use Rattle.terms.specs.declared.side.Side.{Side}
@@ -39,8 +39,8 @@ bid_of leg = record { leg = leg; side = Buy }
 abbrev pub offer_of : ℕ → LegSide
 offer_of leg = record { leg = leg; side = Sell }
 
-abbrev pub facing : LegSide → LegSide
-facing at = record { leg = at.leg; side = opposite at.side }
+abbrev pub facing_side : LegSide → LegSide
+facing_side at = record { leg = at.leg; side = opposite at.side }
 
 abbrev pub leg_side_text : LegSide → List ℕ
 leg_side_text at = codes "leg " ++ (decimal at.leg ++ quote_text at.side)
@@ -48,9 +48,9 @@ leg_side_text at = codes "leg " ++ (decimal at.leg ++ quote_text at.side)
 -- ---- something on each side
 
 module _ {T : Type 0} where
-  abbrev pub on_side : BySide T → Side → T
-  on_side pair Buy = pair.bid
-  on_side pair Sell = pair.offer
+  abbrev pub of_side : BySide T → Side → T
+  of_side pair Buy = pair.bid
+  of_side pair Sell = pair.offer
 
   abbrev pub with_on : BySide T → Side → T → BySide T
   with_on pair Buy value = record { bid = value; offer = pair.offer }

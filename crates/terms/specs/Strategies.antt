@@ -1,13 +1,18 @@
 -- What a strategy is.
 --   LegCountFits            two to six legs
 --   RatiosInRange           every ratio is 1 to 100
+--   DividesAll              a number divides all ratios
 --   CommonFactor            a number above 1 divides all ratios
 --   SoundLegs               legs of which a strategy can be made
 --   legs_refusal            the first row of the refusals that fits these legs
 --   strategy_answer         what making a strategy of these legs answers
 --   smallest_ratio          the smallest ratio
+--   SmallestOf              a number is the ratio of a leg, and no ratio is below it
+--   same_kind               whether two kinds are one
+--   all_on_side, all_of_kind    every leg is on this side, of this kind (on_one_side, of_one_kind: of either)
 --   every_eco_complex_only  whether every order in these legs counts as Complex Only
--- A word in small letters is the same as a test that can be computed; MadeExactlyOf says that they agree.
+-- A word in small letters is the same as a test that can be computed (leg_count_fits, ratios_in_range, divides_all,
+-- common_factor, ratios_fit, sound_legs); MadeExactlyOf says that they agree.
 use Rattle.std.specs.Prelude.{◌≡◌, ℕ, zero, suc, ◌%◌, ◌<◌, ◌≤◌, min, Bool, true, false, cond, not, ◌&&◌, ◌||◌, List, [], ◌∷◌, length, Some, None, Option, Result, ◌==◌, nat_le, slice_index_or}
 use Rattle.std.specs.List.{AllByRecursion, list_all}
 use Rattle.terms.specs.declared.leg.Leg.{Leg}

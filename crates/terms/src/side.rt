@@ -1,6 +1,6 @@
 //! Sides, and what there is of each.
 ghost use Rattle.std.specs.Prelude.{◌≡◌, Some};
-ghost use Rattle.terms.specs.Sides.{opposite, side_text, leg_side_text, facing, bid_of, offer_of, on_side, with_on};
+ghost use Rattle.terms.specs.Sides.{opposite, side_text, leg_side_text, facing_side, bid_of, offer_of, of_side, with_on};
 
 use std::fmt;
 
@@ -69,7 +69,7 @@ impl LegSide {
 
     // The other side of the same leg.
     pub fn facing(self) -> LegSide
-        ensures { result ≡ facing self }
+        ensures { result ≡ facing_side self }
     {
         LegSide {
             side: self.side.opposite(),
@@ -92,7 +92,7 @@ impl fmt::Display for LegSide {
 
 impl<T: Copy> BySide<T> {
     pub fn on(&self, side: Side) -> T
-        ensures { result ≡ on_side self.now side }
+        ensures { result ≡ of_side self.now side }
     {
         match side {
             Side::Buy => self.bid,

@@ -5,7 +5,7 @@ ghost use Rattle.leg_orders.specs.Ranks.{leg_before, ahead_of};
 ghost use Rattle.leg_orders.specs.Levels.{own};
 ghost use Rattle.leg_orders.proofs.Books.{book-sound, book-depth};
 ghost use Rattle.depth_book.specs.Books.{standing, shows};
-ghost use Rattle.depth_book.specs.Levels.{levels_left};
+ghost use Rattle.depth_book.specs.Levels.{unread_levels};
 
 use super::super::scan::MAX_PRICES;
 use super::super::side_levels::SideLevels;
@@ -26,7 +26,7 @@ impl DepthBook<'_> {
 
     // The own levels of one side of a leg, best first.
     pub(crate) fn levels(&self, at: LegSide) -> SideLevels<'_>
-        ensures { levels_left result ≡ own at.leg at.side (standing self.now) }
+        ensures { unread_levels result ≡ own at.leg at.side (standing self.now) }
     {
         let start = self.start_of(at);
         SideLevels {

@@ -2,7 +2,7 @@
 use Rattle.std.proofs.Common.{◌≡◌, ◌∷◌, length, sym, ap, ◌∙◌, arith}
 use Rattle.leg_orders.specs.Levels.{own}
 use Rattle.leg_orders.proofs.Runs.{no-run, running-few, running_more, scan-next, run-to-end, run-to-other}
-use Rattle.depth_book.specs.Levels.{levels_left}
+use Rattle.depth_book.specs.Levels.{unread_levels}
 use Rattle.depth_book.proofs.scan.SideLevelsIterator.next.Goals.{in-Some+then-not-is_at, in_default}
 use Rattle.depth_book.proofs.scan.SideLevelsIterator.next.Goals as goal
 
@@ -20,7 +20,7 @@ loop-order-preserved c = rw c.with_order-level.ensures (running_more c.loop-orde
 pub invariant_of-self : goal.invariant_of-self
 invariant_of-self c =
     let run = c.loop-order.invariant in
-    let first : levels_left c.args.self.now ≡ c.loop-order.level ∷ own c.args.self.now.at.leg c.args.self.now.at.side c.loop-order.rest.now =
+    let first : unread_levels c.args.self.now ≡ c.loop-order.level ∷ own c.args.self.now.at.leg c.args.self.now.at.side c.loop-order.rest.now =
     elim c.match-split_first.branch [
       | in-Some+then-not-is_at w ↦ run-to-other run w.in-Some.ensures.cases.0 (sym w.if-not-is_at.ensures)
       | in_default w ↦ run-to-end run w.in_default.ensures.cases
@@ -30,7 +30,7 @@ invariant_of-self c =
 pub returns : goal.returns
 returns c =
     let run = c.loop-order.invariant in
-    let first : levels_left c.args.self.now ≡ c.loop-order.level ∷ own c.args.self.now.at.leg c.args.self.now.at.side c.loop-order.rest.now =
+    let first : unread_levels c.args.self.now ≡ c.loop-order.level ∷ own c.args.self.now.at.leg c.args.self.now.at.side c.loop-order.rest.now =
     elim c.match-split_first.branch [
       | in-Some+then-not-is_at w ↦ run-to-other run w.in-Some.ensures.cases.0 (sym w.if-not-is_at.ensures)
       | in_default w ↦ run-to-end run w.in_default.ensures.cases
