@@ -3,6 +3,7 @@
 
 mod away_table;
 pub mod book;
+pub mod memory;
 mod scan;
 mod side_levels;
 mod uses;

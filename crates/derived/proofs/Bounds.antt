@@ -67,7 +67,7 @@ quoted-within side (Some own) None h k = own-within side (Some own) h own refl
 quoted-within Buy (Some own) (Some away) h k = let o = own-within Buy (Some own) h own refl in omega (arith, o)
 quoted-within Sell (Some own) (Some away) h k = let o = own-within Sell (Some own) h own refl in omega (arith, o)
 
-quoted-price-within : (top : LegTop) (side : Side) → SoundTop top → Within (quoted_price top side)
+pub quoted-price-within : (top : LegTop) (side : Side) → SoundTop top → Within (quoted_price top side)
 quoted-price-within top side h =
     let p = side-parts 1 side (quotes_of top side) (leg-side 1 (quotes_of top) side h) in
     quoted-within side (own_of top side) (away_of top side) p.levels (away_of_within top side h)

@@ -23,7 +23,7 @@ get_or-seen shown k (leg ∷ legs) (suc i) d e h =
     let z : k + suc i ≡ (k + 1) + i = omega arith in
     rw z (get_or-seen shown (k + 1) legs i d e (omega arith))
 
-seen-leg : (shown : Shown) (legs : List Leg) (i : ℕ) (d : Leg) (e : SeenLeg) → i < length legs → get_or (seen shown legs) i e ≡ seen_at shown i (get_or legs i d)
+pub seen-leg : (shown : Shown) (legs : List Leg) (i : ℕ) (d : Leg) (e : SeenLeg) → i < length legs → get_or (seen shown legs) i e ≡ seen_at shown i (get_or legs i d)
 seen-leg shown legs i d e h =
     let z : 0 + i ≡ i = omega arith in
     get_or-seen shown 0 legs i d e h ∙ ap (λ (k : ℕ). seen_at shown k (get_or legs i d)) z
@@ -53,7 +53,7 @@ upto-count shown legs i t h o =
     omega (arith, count, length-take i (seen shown legs), seen-long shown legs)
 
 -- what is read at the place of the next leg is that leg
-next-leg : (shown : Shown) (legs : List Leg) (i k : ℕ) (d : Leg) (t : Tallied) (r : Option SeenLeg) → i < length legs → Upto shown legs i t → k ≡ t.legs → r ≡ leg_priced shown k (get_or legs i d) → r ≡ leg_priced shown i (get_or legs i d)
+pub next-leg : (shown : Shown) (legs : List Leg) (i k : ℕ) (d : Leg) (t : Tallied) (r : Option SeenLeg) → i < length legs → Upto shown legs i t → k ≡ t.legs → r ≡ leg_priced shown k (get_or legs i d) → r ≡ leg_priced shown i (get_or legs i d)
 next-leg shown legs i k d t r h o p e = e ∙ ap (λ (n : ℕ). leg_priced shown n (get_or legs i d)) (p ∙ upto-count shown legs i t h o)
 
 pub upto-more : (shown : Shown) (legs : List Leg) (i k : ℕ) (d : Leg) (t u : Tallied) (r : Option SeenLeg) (v : SeenLeg) → i < length legs → Upto shown legs i t → k ≡ t.legs → r ≡ leg_priced shown k (get_or legs i d) → r ≡ Some v → ((vs : List SeenLeg) → t ≡ tally vs → u ≡ tally (vs ++ v ∷ [])) → Upto shown legs (i + 1) u
@@ -76,10 +76,10 @@ none-if : (b : Bool) (v : SeenLeg) → None ≡ cond b (Some v) None → b ≡ f
 none-if true v e = absurd (none-some v e)
 none-if false v e = refl
 
-pub no-derived : (shown : Shown) (legs : List Leg) (i k : ℕ) (d : Leg) (t : Tallied) (r : Option SeenLeg) → i < length legs → Upto shown legs i t → k ≡ t.legs → r ≡ leg_priced shown k (get_or legs i d) → r ≡ None → None ≡ derived_of shown legs
-no-derived shown legs i k d t r h o p e n =
+pub no-derived : (shown : Shown) (legs : List Leg) (i : ℕ) (d : Leg) → i < length legs → None ≡ leg_priced shown i (get_or legs i d) → None ≡ derived_of shown legs
+no-derived shown legs i d h e =
     let v = seen_at shown i (get_or legs i d) in
-    let f : both_used (get_or (seen shown legs) i v) ≡ false = ap both_used (seen-leg shown legs i d v h) ∙ none-if (both_used v) v (sym n ∙ next-leg shown legs i k d t r h o p e) in
+    let f : both_used (get_or (seen shown legs) i v) ≡ false = ap both_used (seen-leg shown legs i d v h) ∙ none-if (both_used v) v e in
     let q : priced (seen shown legs) ≡ false = unpriced-leg (seen shown legs) i v (rw (seen-long shown legs) h) f in
     rw q
 

@@ -112,7 +112,8 @@ impl Tally {
         self.legs
     }
 
-    // The tally with the next leg.
+    // The tally with the next leg. A call for each leg would copy the tally and the leg to memory and back.
+    #[inline(always)]
     pub(crate) fn with(self, leg: &PricedLeg) -> Tally
         requires { self.legs < 6 }
         ensures { (legs : List SeenLeg) → self ≡ tally legs → result ≡ tally (legs ++ leg.now ∷ []) }

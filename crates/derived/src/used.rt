@@ -86,13 +86,20 @@ impl ShownTop {
     }
 
     #[tactic(auto, using(crate::proofs::Bounds::away_of_within))]
+    #[inline(always)]
     fn quoted_price(&self, side: Side) -> Option<u32>
         ensures value { result ≡ quoted_price self.now.top side }
         ensures within { Within result }
     {
-        quoted(side, self.top.own(side), self.top.away(side))
+        // A match on the side, and inlined: `own(side)` has the whole top written to memory, to pick from it.
+        let LegTop { own, away } = self.top;
+        match side {
+            Side::Buy => quoted(side, own.bid, away.bid),
+            Side::Sell => quoted(side, own.offer, away.offer),
+        }
     }
 
+    #[inline(always)]
     pub(crate) fn used_price(&self, side: Side) -> Option<u32>
         ensures { result ≡ used_price self.now.top side }
     {

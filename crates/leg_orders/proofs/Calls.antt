@@ -1,10 +1,12 @@
 -- What each call leaves of a book: one record for each, with all that the book keeps and all that the call tells.
-use Rattle.std.proofs.Common.{◌≡◌, ℕ, ◌+◌, Bool, true, cond, leb, List, length, Some, None, Option, sym, ap, ◌∙◌, subst, arith}
-use Rattle.std.specs.List.{insert, remove}
+use Rattle.std.proofs.Common.{◌≡◌, ℕ, ◌+◌, Bool, true, cond, leb, List, [], ◌∷◌, length, Some, None, Option, sym, refl, ap, ◌∙◌, subst, arith}
+use Rattle.std.specs.List.{slice_get, insert, remove}
 use Rattle.std.proofs.lemmas.Bool.{or_parts, leb-false, le-leb}
 use Rattle.terms.specs.declared.side.Side.{Side}
 use Rattle.terms.specs.Sides.{opposite}
+use Rattle.quotes.specs.declared.level.Level.{Level}
 use Rattle.quotes.specs.Takes.{may_take, taken}
+use Rattle.quotes.specs.Tops.{list_of}
 use Rattle.quotes.specs.Sheets.{would_reach, away_set}
 use Rattle.ranked.specs.Order.{in_order, place_for, in_rank, place_given, inserted_at, FoundAt}
 use Rattle.ranked.proofs.Places.{inserted-in-rank}
@@ -84,6 +86,11 @@ pub record Took (last : ℕ) (orders new : List LegOrder) (away : List AwayPrice
   pub kept : Kept last new away
   pub rest : new ≡ used_up leg side quantity orders
   pub shows : (l : ℕ) (s : Side) → book_shown new away l s ≡ taken (book_shown orders away) leg side quantity l s
+
+-- whether the best level gives so many is whether the levels do
+pub best-may : (levels : List Level) (quantity : ℕ) → may_take (list_of (slice_get levels 0)) quantity ≡ may_take levels quantity
+best-may [] quantity = refl
+best-may (level ∷ levels) quantity = refl
 
 pub took : (last : ℕ) (orders new : List LegOrder) (away : List AwayPrices) (leg : ℕ) (side : Side) (quantity start : ℕ) → Kept last orders away →
     may_take (own leg side orders) quantity ≡ true → start ≡ place_for leg_before (ahead_of leg side) orders →

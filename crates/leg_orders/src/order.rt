@@ -7,13 +7,13 @@ ghost use Rattle.leg_orders.specs.RanksLemmas;
 
 use quotes::level::{Level, MAX_PRICE};
 use ranked::rank::Rank;
-use std::cmp::Ordering;
 use terms::side::{LegSide, Side};
 
+// Fields lie in the order in which they stand here: the widest first, for memory is lent by the order.
 #[derive(Clone, Copy, PartialEq, Eq, Debug)]
 pub struct LegOrder {
-    pub number: u32,
     pub at: LegSide,
+    pub number: u32,
     pub price: u32,
     pub contracts: u32,
     pub customer: bool,
@@ -92,21 +92,25 @@ impl Rank for LegOrder {
     ghost chain = { RanksLemmas.chain };
 
     // Bids rank ahead of offers, higher bids and lower offers first, customers ahead of others: which price is better hangs on
-    // the side, so no order that is derived from the fields will do.
+    // the side, so no order that is derived from the fields will do. The first difference decides, and nothing behind it is
+    // looked at: this is asked at each step of every search, where a chain of `cmp` took twice the time.
     fn precedes(&self, other: &LegOrder) -> bool {
-        let placed = match (self.at.side, other.at.side) {
-            (Side::Buy, Side::Sell) => Ordering::Less,
-            (Side::Sell, Side::Buy) => Ordering::Greater,
-            (Side::Buy, Side::Buy) => other.price.cmp(&self.price),
-            (Side::Sell, Side::Sell) => self.price.cmp(&other.price),
-        };
-        self.at
-            .leg
-            .cmp(&other.at.leg)
-            .then(placed)
-            .then(other.customer.cmp(&self.customer))
-            .then(self.number.cmp(&other.number))
-            .is_lt()
+        if self.at.leg != other.at.leg {
+            return self.at.leg < other.at.leg;
+        }
+        if self.at.side != other.at.side {
+            return self.at.side == Side::Buy;
+        }
+        if self.price != other.price {
+            return match self.at.side {
+                Side::Buy => other.price < self.price,
+                Side::Sell => self.price < other.price,
+            };
+        }
+        if self.customer != other.customer {
+            return self.customer;
+        }
+        self.number < other.number
     }
 
     fn number(&self) -> u32 {

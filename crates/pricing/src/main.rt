@@ -60,9 +60,12 @@ fn show_away(rt: &HostRuntime, away: Option<u32>) -> io::Result<()> {
     }
 }
 
-fn show_used(rt: &HostRuntime, used: Option<u32>, own: bool) -> io::Result<()> {
-    match used {
-        Some(price) => println!(rt; ": used {price}, {}", if own { "own" } else { "not own" }),
+fn show_used(rt: &HostRuntime, sheet: &QuoteSheet, at: LegSide) -> io::Result<()> {
+    match used_price(sheet, at) {
+        Some(price) => println!(rt;
+            ": used {price}, {}",
+            if is_own(sheet, at) { "own" } else { "not own" }
+        ),
         None => println!(rt; ": no used price"),
     }
 }
@@ -74,7 +77,7 @@ fn show_side(rt: &HostRuntime, sheet: &QuoteSheet, at: LegSide) -> io::Result<()
     }
     show_own(rt, sheet.level(at, 0))?;
     show_away(rt, sheet.away(at))?;
-    show_used(rt, used_price(sheet, at), is_own(sheet, at))
+    show_used(rt, sheet, at)
 }
 
 fn show_leg(rt: &HostRuntime, sheet: &QuoteSheet, place: usize, leg: Leg) -> io::Result<()> {

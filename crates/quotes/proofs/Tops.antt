@@ -1,5 +1,6 @@
 -- One leg of depth 1: what a take and a new own level or away price leave of it is sound.
-use Rattle.std.proofs.Common.{◌≡◌, ℕ, Bool, true, false, cond, ltb, leb, [], ◌∷◌, length, Some, None, Option, refl, arith}
+use Rattle.std.proofs.Common.{◌≡◌, ℕ, zero, suc, ◌<◌, Bool, true, false, cond, ltb, leb, [], ◌∷◌, length, Some, None, Option, refl, arith}
+use Rattle.std.specs.List.{slice_get}
 use Rattle.std.proofs.lemmas.Bool.Decides.{nat_tests}
 use Rattle.terms.specs.declared.side.Side.{Side}
 use Rattle.terms.specs.declared.side.Side.TheVariants.{Buy, Sell}
@@ -113,3 +114,9 @@ away-here top Sell price = refl
 pub away-there : (top : LegTop) (side : Side) (price : Option ℕ) → quotes_of (with_away top side price) (opposite side) ≡ quotes_of top (opposite side)
 away-there top Buy price = refl
 away-there top Sell price = refl
+
+-- a list of at most one level has none at a later place
+pub no_second : (own : Option Level) (place : ℕ) → 0 < place → None ≡ slice_get (list_of own) place
+no_second None place h = refl
+no_second (Some level) zero h = absurd (omega arith)
+no_second (Some level) (suc place) h = refl

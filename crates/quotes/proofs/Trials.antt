@@ -134,3 +134,16 @@ take_left depth shown h totals new long leg side quantity said total found at le
       more = added;
       quotes = λ l s. ap (λ (table : List Taken). tried shown table l s) added ∙ tried-take depth shown totals leg side quantity h long l s;
     }
+
+-- a list without levels has no first
+none_first : (levels : List Level) (level : Level) → levels ≡ [] → (rest : List Level) → levels ≡ level ∷ rest → ⊥
+none_first [] level e rest f = grind arith
+none_first (first ∷ levels) level e rest f = grind arith
+
+-- a level of which something is left stands on one of the six legs
+pub left-fits : (depth : ℕ) (shown : Shown) → Sound depth shown → (leg : ℕ) (side : Side) (n : ℕ) (found : Found) → FirstLeft (shown leg side).own n found → leg < 6
+left-fits depth shown h leg side n found left =
+    elim (cases_lt leg 6) [
+      | inl lt ↦ lt
+      | inr past ↦ absurd (none_first (less_taken (shown leg side).own n) found.level (none_left depth shown h leg side n past) (drop (found.place + 1) (shown leg side).own) left.first)
+    ]

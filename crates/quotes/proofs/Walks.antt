@@ -87,6 +87,10 @@ walk-found side own total place more level left h walked near here e =
 pub walk-short : (own : List Level) (total place more : ℕ) → Walked own total place more → None ≡ slice_get own place → less_taken own total ≡ []
 walk-short own total place more walked e = walked.same ∙ ap (λ (levels : List Level). less_taken levels more) (drop-none own place e)
 
+-- a walk past the last level finds nothing left
+pub walk_end : (own : List Level) (total place more : ℕ) → Walked own total place more → length own ≤ place → less_taken own total ≡ []
+walk_end own total place more walked short = walk-short own total place more walked (sym (slice_get_past own place short))
+
 -- ---- what the first level left tells of the others
 
 pub nth-behind : (own : List Level) (total : ℕ) (found : Found) (place : ℕ) (level : Option Level) → FirstLeft own total found → (place ≡ 0 → ⊥) → level ≡ slice_get own (found.place + place) → level ≡ slice_get (less_taken own total) place

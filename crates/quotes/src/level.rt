@@ -40,13 +40,19 @@ impl Level {
     pub fn left(self, quantity: u32) -> Option<Level>
         ensures { result ≡ level_left self quantity }
     {
-        let from_others = quantity.saturating_sub(self.customer);
-        if quantity >= self.customer && from_others >= self.other {
-            return None;
+        if quantity < self.customer {
+            return Some(Level {
+                customer: self.customer - quantity,
+                ..self
+            });
         }
+        let other = self
+            .other
+            .checked_sub(quantity - self.customer)
+            .filter(|other| *other > 0)?;
         Some(Level {
-            customer: self.customer.saturating_sub(quantity),
-            other: self.other.saturating_sub(from_others),
+            customer: 0,
+            other,
             ..self
         })
     }

@@ -10,6 +10,11 @@ module _ {X : Type 0} (before : X → X → Bool) where
   leads-not-before x (y ∷ ys) led zero d lt = not-true (before y x) (and_parts _ _ led).0
   leads-not-before x (y ∷ ys) led (suc k) d lt = leads-not-before x ys (and_parts _ _ led).1 k d (omega arith)
 
+  -- x leads where no record precedes it
+  pub leads-from-not-before : (x : X) (xs : List X) → ((k : ℕ) (d : X) → k < length xs → before (get_or xs k d) x ≡ false) → leads before x xs ≡ true
+  leads-from-not-before x [] each = refl
+  leads-from-not-before x (y ∷ ys) each = and_from _ _ (not_from_false _ (each zero y (omega arith))) (leads-from-not-before x ys (λ k d lt. each (suc k) d (omega arith)))
+
   pub leads-removed : (x : X) (xs : List X) (i : ℕ) → leads before x xs ≡ true → leads before x (remove xs i) ≡ true
   leads-removed x [] zero led = refl
   leads-removed x [] (suc i) led = refl

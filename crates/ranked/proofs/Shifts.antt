@@ -1,47 +1,46 @@
 -- What a list holds once some of its records moved by one place.
-use Rattle.std.proofs.Common.{◌≡◌, ℕ, suc, ◌+◌, ◌-◌, ◌<◌, ◌≤◌, List, [], ◌++◌, ◌∷◌, length, take, drop, set, sym, ap, ◌∙◌, arith}
+use Rattle.std.proofs.Common.{◌≡◌, ℕ, suc, ◌+◌, ◌-◌, ◌<◌, ◌≤◌, ◌⊎◌, List, ◌++◌, length, get_or, take, set, ◌∙◌, arith, rules}
 use Rattle.std.specs.List.{insert, remove, copy_within}
-use Rattle.std.proofs.Math.Seq.{paste, take-set-lt, append_snoc}
-use Rattle.std.proofs.lemmas.List.{take-take, drop-take, length-take-le, length-drop, set-append_left, take_more_set}
-use Rattle.std.proofs.lemmas.List.Edits.{take-paste}
+use Rattle.std.proofs.lemmas.List.{places, same_lists, get_or-set_same, take_all, drop_all, append-nil}
+use Rattle.std.proofs.lemmas.Bool.{cases_order, cases_lt}
 
 module _ {X : Type 0} where
-  -- m records from i on one place further on, and x at i
-  inserted-by : (xs : List X) (i m : ℕ) (x : X) → i + m < length xs → take (i + 1 + m) (set (paste xs (i + 1) (drop i xs) m) i x) ≡ insert (take (i + m) xs) i x
-  inserted-by xs i m x within =
-      let ys = paste xs (i + 1) (drop i xs) m in
-      let low = take (i + 1) xs in
-      let high = take m (drop i xs) in
-      let long : length low ≡ i + 1 = length-take-le (i + 1) xs (omega arith) in
-      let enough : length (drop i xs) ≡ length xs - i = length-drop i xs in
-      let put : set low i x ≡ take i xs ++ x ∷ [] = sym (take-set-lt (i + 1) xs i x (omega arith)) ∙ take_more_set xs i x (omega arith) in
-      take-set-lt (i + 1 + m) ys i x (omega arith)
-      ∙ ap (λ (l : List X). set l i x) (take-paste xs (i + 1) (drop i xs) m (omega arith) (omega arith))
-      ∙ set-append_left low high i x (omega arith)
-      ∙ ap (λ (l : List X). l ++ high) put
-      ∙ append_snoc (take i xs) x high
-      ∙ ap (λ (l : List X). l ++ x ∷ high) (sym (take-take i (i + m) xs (omega arith)))
-      ∙ ap (λ (l : List X). take i (take (i + m) xs) ++ x ∷ l) (sym (drop-take i m xs))
+  -- what stands at k once x was put at i
+  get_or-inserted : (xs : List X) (i : ℕ) (x d : X) (k : ℕ) → i ≤ length xs
+      → ((k < i) × (get_or (insert xs i x) k d ≡ get_or xs k d)) ⊎ (((k ≡ i) × (get_or (insert xs i x) k d ≡ x)) ⊎ ((i < k) × (get_or (insert xs i x) k d ≡ get_or xs (k - 1) d)))
+  get_or-inserted xs i x d k le = grind (arith, places, cases_order k i)
 
-  -- the records from i up to n one place further on, and x at i
-  pub inserted-from-moved-on : (xs : List X) (i n : ℕ) (x : X) → i ≤ n → n < length xs → take (n + 1) (set (copy_within xs i n (i + 1)) i x) ≡ insert (take n xs) i x
-  inserted-from-moved-on xs i n x a b =
-      ap (λ k. take k (set (copy_within xs i n (i + 1)) i x)) {x = n + 1} {y = i + 1 + (n - i)} (omega arith)
-      ∙ inserted-by xs i (n - i) x (omega arith)
-      ∙ ap (λ k. insert (take k xs) i x) {x = i + (n - i)} {y = n} (omega arith)
+  -- what stands at k once the record at i went
+  get_or-removed : (xs : List X) (i : ℕ) (d : X) (k : ℕ) → i < length xs
+      → ((k < i) × (get_or (remove xs i) k d ≡ get_or xs k d)) ⊎ ((i ≤ k) × (get_or (remove xs i) k d ≡ get_or xs (k + 1) d))
+  get_or-removed xs i d k l = grind (arith, places, cases_lt k i)
 
-  -- m records behind i one place nearer
-  removed-by : (xs : List X) (i m : ℕ) → suc i + m ≤ length xs → take (i + m) (paste xs i (drop (suc i) xs) m) ≡ remove (take (suc i + m) xs) i
-  removed-by xs i m within =
-      let enough : length (drop (suc i) xs) ≡ length xs - suc i = length-drop (suc i) xs in
-      take-paste xs i (drop (suc i) xs) m (omega arith) (omega arith)
-      ∙ ap (λ (l : List X). l ++ take m (drop (suc i) xs)) (sym (take-take i (suc i + m) xs (omega arith)))
-      ∙ ap (λ (l : List X). take i (take (suc i + m) xs) ++ l) (sym (drop-take (suc i) m xs))
+  -- ys is xs with the records from i up to n one place further on
+  pub inserted-from-moved-on : (xs ys : List X) (i n : ℕ) (x : X) → i ≤ n → n < length xs → length ys ≡ length xs
+      → ((j : ℕ) (d : X) → j < i → get_or ys j d ≡ get_or xs j d)
+      → ((j : ℕ) (d : X) → i ≤ j → j < n → get_or ys (j + 1) d ≡ get_or xs j d)
+      → take (n + 1) (set ys i x) ≡ insert (take n xs) i x
+  inserted-from-moved-on xs ys i n x a b same low high =
+      same_lists _ _ (search (rules, places)) (λ k d h. grind (arith, places, get_or-set_same, get_or-inserted (take n xs) i x d k, low, high))
 
-  -- the records behind i up to n one place nearer
-  pub removed-from-moved-up : (xs : List X) (i n : ℕ) → i < n → n ≤ length xs → take (n - 1) (copy_within xs (i + 1) n i) ≡ remove (take n xs) i
-  removed-from-moved-up xs i n a b =
-      ap (λ k. take (n - 1) (paste xs i (drop k xs) (n - k))) {x = i + 1} {y = suc i} (omega arith)
-      ∙ ap (λ k. take k (paste xs i (drop (suc i) xs) (n - suc i))) {x = n - 1} {y = i + (n - suc i)} (omega arith)
-      ∙ removed-by xs i (n - suc i) (omega arith)
-      ∙ ap (λ k. remove (take k xs) i) {x = suc i + (n - suc i)} {y = n} (omega arith)
+  -- by `copy_within` the records from i up to n go one place further on
+  pub inserted-from-copied : (xs : List X) (i n : ℕ) (x : X) → i ≤ n → n < length xs → take (n + 1) (set (copy_within xs i n (i + 1)) i x) ≡ insert (take n xs) i x
+  inserted-from-copied xs i n x a b =
+      inserted-from-moved-on xs (copy_within xs i n (i + 1)) i n x a b (search (rules, places)) (λ j d lt. grind (arith, places)) (λ j d from to. grind (arith, places))
+
+  -- ys is xs with the records behind i up to n one place nearer
+  pub removed-from-moved-up : (xs ys : List X) (i n : ℕ) → i < n → n ≤ length xs → length ys ≡ length xs
+      → ((j : ℕ) (d : X) → j < i → get_or ys j d ≡ get_or xs j d)
+      → ((j : ℕ) (d : X) → i ≤ j → j + 1 < n → get_or ys j d ≡ get_or xs (j + 1) d)
+      → take (n - 1) ys ≡ remove (take n xs) i
+  removed-from-moved-up xs ys i n a b same low high =
+      same_lists _ _ (search (rules, places)) (λ k d h. grind (arith, places, get_or-removed (take n xs) i d k, low, high))
+
+  -- by `copy_within` the records behind i up to n come one place nearer
+  pub removed-from-copied : (xs : List X) (i n : ℕ) → i < n → n ≤ length xs → take (n - 1) (copy_within xs (i + 1) n i) ≡ remove (take n xs) i
+  removed-from-copied xs i n a b =
+      removed-from-moved-up xs (copy_within xs (i + 1) n i) i n a b (search (rules, places)) (λ j d lt. grind (arith, places)) (λ j d from to. grind (arith, places))
+
+  -- at a place past the end nothing is taken out
+  pub removed-past : (xs : List X) (i : ℕ) → length xs ≤ i → remove xs i ≡ xs
+  removed-past xs i le = (λ k. take_all i xs le k ++ drop_all (suc i) xs (omega arith) k) ∙ append-nil xs

@@ -18,10 +18,14 @@ fn owner_name(customer: bool) -> &'static str {
 }
 
 fn show_side<M: MarketView>(rt: &HostRuntime, market: &M, at: LegSide) -> io::Result<()> {
-    if market.level(at, 0).is_none() {
+    // each place is asked once: a trial walks the levels below it for each answer
+    let mut levels = (0..M::max_levels())
+        .map_while(|place| market.level(at, place))
+        .peekable();
+    if levels.peek().is_none() {
         println!(rt; "    {at}: none")?;
     }
-    for level in (0..M::max_levels()).map_while(|place| market.level(at, place)) {
+    for level in levels {
         println!(rt;
             "    {at} {}: {} customer, {} other",
             level.price, level.customer, level.other

@@ -1,6 +1,6 @@
 -- A number above 1 that divides all ratios: the test up to n finds one up to n, and there is none above 100.
-use Rattle.std.proofs.Common.{◌≡◌, ℕ, zero, suc, ◌%◌, ◌<◌, ◌≤◌, ◌&&◌, leb, List, [], ◌∷◌, length, Decides, refl, inl, inr, mod-eq_of_lt, arith}
-use Rattle.std.proofs.lemmas.Bool.{leb-true, le-leb, cases_lt}
+use Rattle.std.proofs.Common.{◌≡◌, ℕ, zero, suc, ◌-◌, ◌%◌, ◌<◌, ◌≤◌, false, ◌&&◌, leb, List, [], ◌∷◌, length, Decides, refl, inl, inr, mod-eq_of_lt, arith}
+use Rattle.std.proofs.lemmas.Bool.{and_right, or_from, leb-true, le-leb, cases_lt}
 use Rattle.std.proofs.lemmas.Bool.Decides.{Decides-and, Decides-below_or, Decides-like}
 use Rattle.terms.specs.declared.leg.Leg.{Leg}
 use Rattle.terms.specs.Strategies.{DividesAll, CommonFactor, RatiosInRange, divides_all, common_factor}
@@ -26,6 +26,13 @@ decides-factor n legs =
     (λ m. common_factor m legs)
     (λ k. Decides-and _ _ (leb-true 2 (suc k), le-leb 2 (suc k)) (decides-divides-all (suc k) legs))
     refl (λ _. refl) n)
+
+pub no-factor-more : (n : ℕ) (legs : List Leg) → 2 ≤ n → divides_all n legs ≡ false →
+    common_factor (n - 1) legs ≡ false → common_factor n legs ≡ false
+no-factor-more zero legs two here below = absurd (omega arith)
+no-factor-more (suc n) legs two here below =
+    let less : suc n - 1 ≡ n = omega arith in
+    or_from _ _ (and_right (leb 2 (suc n)) _ here) (rw less at below)
 
 -- ---- a number that divides a ratio is no larger than the ratio
 

@@ -1,7 +1,8 @@
 //! The calls of a depth book.
-ghost use Rattle.std.specs.Prelude.{◌≡◌, ℕ, true};
+ghost use Rattle.std.specs.Prelude.{◌≡◌, ℕ, true, []};
 ghost use Rattle.terms.specs.declared.side.Side.{Side};
 ghost use Rattle.terms.specs.Refusals.{answered};
+ghost use Rattle.quotes.specs.Shown.{nothing};
 ghost use Rattle.quotes.specs.Sheets.{away_refusal, away_set};
 ghost use Rattle.ranked.specs.Items.{room};
 ghost use Rattle.ranked.specs.Order.{in_order};
@@ -13,32 +14,35 @@ ghost use Rattle.depth_book.specs.Memories.{Lent};
 ghost use Rattle.depth_book.specs.Books.{standing, shows, next_order, add_answer, orders_added, last_added, quotes_added};
 
 use super::super::away_table::put_away;
+use super::super::memory::OrderMemory;
 use super::DepthBook;
 use leg_orders::order::LegOrder;
-use ranked::list::Ranked;
 use terms::refusal::Refusal;
 use terms::side::{BySide, LegSide};
 use terms::strategy::MAX_LEGS;
 
-// The most leg orders that stand in one book.
-const MAX_ORDERS: usize = 512;
-
 impl<'a> DepthBook<'a> {
-    // An empty book over the memory, which has room for 1 to 512 orders.
+    // An empty book over the memory.
+    pub fn new(memory: OrderMemory<'a>) -> DepthBook<'a>
+        ensures orders { standing result ≡ [] }
+        ensures quotes { (l : ℕ) (s : Side) → shows result l s ≡ nothing }
+        ensures room { room result.orders ≡ room memory.entry.orders }
+        ensures added { result.added ≡ 0 }
+    {
+        let mut orders = memory.orders;
+        orders.clear();
+        DepthBook {
+            orders,
+            away: [BySide::default(); MAX_LEGS],
+            added: 0,
+        }
+    }
+
+    // The same in one step, from memory for 1 to 512 orders.
     pub fn lend(slots: &'a mut [LegOrder]) -> Result<DepthBook<'a>, Refusal>
         ensures { Lent slots.old result }
     {
-        if slots.len() < 1 {
-            return Err(Refusal::LentMemory);
-        }
-        if slots.len() > MAX_ORDERS {
-            return Err(Refusal::LentMemory);
-        }
-        Ok(DepthBook {
-            orders: Ranked::new(slots),
-            away: [BySide::default(); MAX_LEGS],
-            added: 0,
-        })
+        OrderMemory::lend(slots).map(|memory| DepthBook::new(memory))
     }
 }
 

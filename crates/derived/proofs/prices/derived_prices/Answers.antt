@@ -6,7 +6,7 @@ use Rattle.terms.specs.Strategies.{smallest_ratio}
 use Rattle.terms.proofs.SoundLegs.{sound-count}
 use Rattle.derived.specs.Derived.{derived_of}
 use Rattle.derived.proofs.Leasts.{least-units}
-use Rattle.derived.proofs.Legs.{no-derived, good-leg, upto-start, upto-more, upto_all}
+use Rattle.derived.proofs.Legs.{good-leg, upto-start, next-leg, upto-more, no-derived, upto_all}
 use Rattle.derived.proofs.prices.derived_prices.Goals as goal
 
 pub loop-leg-init : goal.loop-leg-init
@@ -18,9 +18,11 @@ read-requires g c = good-leg c.legs-leg-items.result.now c.loop-leg.leg-index _ 
 pub returns-in_err-priced-clause-value : goal.returns-in_err-priced-clause-value
 returns-in_err-priced-clause-value g c =
     let shown = g.M.MarketView.shown c.args.market.now in
+    let legs = c.legs-leg-items.result.now in
+    let i = c.loop-leg.leg-index in
+    let read = next-leg shown legs i c.legs.result _ c.loop-leg.tally c.read.result c.loop-leg-test.true c.loop-leg.invariant c.legs.ensures c.read.ensures in
     c.from_residual.ensures
-    ∙ no-derived shown c.legs-leg-items.result.now c.loop-leg.leg-index c.legs.result _ c.loop-leg.tally c.read.result
-    c.loop-leg-test.true c.loop-leg.invariant c.legs.ensures c.read.ensures c.in_err-priced.was
+    ∙ no-derived shown legs i _ c.loop-leg-test.true (sym c.in_err-priced.was ∙ read)
     ∙ ap (λ (legs : List Leg). derived_of shown legs) c.legs-leg-items.ensures.value
 
 pub loop-leg-preserved : goal.loop-leg-preserved
