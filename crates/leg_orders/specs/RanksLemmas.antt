@@ -1,4 +1,5 @@
--- Leg orders rank one way and in a chain.
+-- Leg orders rank one way and in a chain. The laws of an impl may cite `specs/` of their own crate and not its `proofs/`, so these
+-- proofs stand here. No clause and no definition cites them, and so none hangs on what a tactic finds.
 use Rattle.std.specs.Prelude.{◌≡◌, ℕ, Bool, true, false, cond, ◌==◌, nat_lt}
 use Rattle.std.proofs.Common.{arith}
 use Rattle.std.proofs.lemmas.Bool.Decides.{nat_tests}
